@@ -3,8 +3,7 @@
 #include "native.h"
 
 static const_oid_octets items_of(PyObject *bytes) {
-    const_oid_octets items = {(const uint8_t *)PyBytes_AsString(bytes), (size_t)((PyVarObject *)bytes)->ob_size};
-    return items;
+    return (const_oid_octets){(const uint8_t *)PyBytes_AsString(bytes), (size_t)((PyVarObject *)bytes)->ob_size};
 }
 
 static const_oid_octets octets_of(PyObject *self) { return ((Identifier *)self)->items; }
@@ -61,14 +60,10 @@ PyObject *raise_wrong_type(PyObject *self, const char *wanted, PyObject *given) 
 
 /* A new object of a type, with valid octets, to which it steals a reference. */
 static PyObject *allocate(PyTypeObject *type, PyObject *octets) {
-    if (!octets) return NULL;
-    Identifier *self = (Identifier *)PyType_GenericAlloc(type, 0);
-    if (self) {
-        self->octets = octets;
-        self->items = items_of(octets);
-    } else {
-        Py_DecRef(octets);
-    }
+    Identifier *self = octets ? (Identifier *)PyType_GenericAlloc(type, 0) : NULL;
+    if (!self) return Py_DecRef(octets), NULL;
+    self->octets = octets;
+    self->items = items_of(octets);
     return (PyObject *)self;
 }
 
@@ -86,46 +81,45 @@ PyObject *identifier_from_items(PyObject *type, const_oid_octets items) {
 /* The most octets of an arc. */
 #define ARC_OCTETS 5
 
-/* Where a call writes: `room`, or memory to free. */
+/* Where a call writes: `room`, or other memory. */
 typedef struct {
     uint32_t room[CONST_OID_MAX_ARCS + CONST_OID_MAX_ARCS / 4];
     void *start;
     size_t len;
 } Output;
 
-/* Reserves memory for items of a size, or raises MemoryError. `release` frees it. */
+/* Reserves memory for items of a size, or raises MemoryError. */
 static int reserve(Output *out, size_t len, size_t size) {
     out->len = len;
     out->start = len <= sizeof out->room / size ? out->room : PyMem_Calloc(len, size);
-    if (!out->start) PyErr_NoMemory();
-    return out->start != NULL;
+    return out->start || PyErr_NoMemory();
 }
 
-static void release(Output *out) {
+/* An output that is freed at the end of its block, so what follows its declaration is `reserve`. */
+static inline void release(Output *out) {
     if (out->start != out->room) PyMem_Free(out->start);
 }
+#define OUTPUT __attribute__((cleanup(release))) Output
 
-/* The octets that a call wrote, or its error. It releases the output. */
-static PyObject *finish(Output *out, PyObject *self, const_oid_status status, PyObject *given) {
-    Py_ssize_t len = (Py_ssize_t)status.len;
-    PyObject *octets = status.code ? raise_status(self, status, given) : PyBytes_FromStringAndSize(out->start, len);
-    release(out);
-    return octets;
+/* The octets that a call wrote, or its error. */
+static PyObject *finish(const Output *out, PyObject *self, const_oid_status status, PyObject *given) {
+    if (status.code) return raise_status(self, status, given);
+    return PyBytes_FromStringAndSize(out->start, (Py_ssize_t)status.len);
 }
 
 /* Octets of a text are at most as many as its bytes. Python makes no UTF-8 of a surrogate. */
 PyObject *identifier_from_text(PyObject *type, PyObject *text) {
-    Output out;
     Py_ssize_t len;
     const char *data = PyUnicode_AsUTF8AndSize(text, &len);
     if (!data && PyErr_ExceptionMatches(PyExc_UnicodeEncodeError)) {
-        const_oid_status status = {CONST_OID_NOT_UTF8, 0, 0};
         PyErr_Clear();
-        return raise_status(type, status, text);
+        return raise_status(type, (const_oid_status){.code = CONST_OID_NOT_UTF8}, text);
     }
-    if (!data || !reserve(&out, (size_t)len, 1)) return NULL;
-    PyObject *octets = finish(&out, type, const_oid_from_text(data, (size_t)len, out.start, out.len), text);
-    return allocate((PyTypeObject *)type, octets);
+    if (!data) return NULL;
+    OUTPUT out;
+    if (!reserve(&out, (size_t)len, 1)) return NULL;
+    const_oid_status status = const_oid_from_text(data, (size_t)len, out.start, out.len);
+    return allocate((PyTypeObject *)type, finish(&out, type, status, text));
 }
 
 static PyObject *identifier_new(PyTypeObject *type, PyObject *arguments, PyObject *keywords) {
@@ -240,21 +234,20 @@ static PyObject *identifier_from_arcs(PyObject *type, PyObject *given) {
         return raise_wrong_type(type, "arcs must be an iterable of int", given);
     }
     OWNED *items = PySequence_Tuple(given);
-    PyObject *octets = NULL;
-    Output arcs, out;
-    if (!items || !reserve(&arcs, (size_t)PyTuple_Size(items), sizeof(uint32_t))) return NULL;
+    if (!items) return NULL;
+    OUTPUT arcs;
+    if (!reserve(&arcs, (size_t)PyTuple_Size(items), sizeof(uint32_t))) return NULL;
     Py_ssize_t count = (Py_ssize_t)arcs.len, fitting = read_arcs(items, count, arcs.start);
-    if (fitting >= 0 && reserve(&out, ARC_OCTETS * (size_t)fitting, 1)) {
-        const_oid_status status = const_oid_from_arcs(arcs.start, (size_t)fitting, out.start, out.len);
-        octets = finish(&out, type, fitting < count ? past_32_bits(status) : status, items);
-    }
-    release(&arcs);
-    return make((PyTypeObject *)type, octets);
+    if (fitting < 0) return NULL;
+    OUTPUT out;
+    if (!reserve(&out, ARC_OCTETS * (size_t)fitting, 1)) return NULL;
+    const_oid_status status = const_oid_from_arcs(arcs.start, (size_t)fitting, out.start, out.len);
+    return make((PyTypeObject *)type, finish(&out, type, fitting < count ? past_32_bits(status) : status, items));
 }
 
 /* Octets have at most one arc more than there are octets. A finalizer may ask for the arcs while they are made. */
 static PyObject *first_arcs(Identifier *identifier) {
-    Output out;
+    OUTPUT out;
     const_oid_octets octets = identifier->items;
     if (!reserve(&out, octets.len + 1, sizeof(uint32_t))) return NULL;
     const_oid_status status = const_oid_arcs(octets.octets, octets.len, out.start, out.len);
@@ -263,7 +256,6 @@ static PyObject *first_arcs(Identifier *identifier) {
         PyObject *arc = PyLong_FromUnsignedLong(((uint32_t *)out.start)[index]);
         if (!arc || PyTuple_SetItem(arcs, (Py_ssize_t)index, arc)) arcs = (Py_DecRef(arcs), (PyObject *)NULL);
     }
-    release(&out);
     if (!identifier->arcs) return identifier->arcs = arcs;
     Py_DecRef(arcs);
     return arcs ? identifier->arcs : NULL;
@@ -282,7 +274,7 @@ static PyObject *identifier_arcs(PyObject *self, void *Py_UNUSED(closure)) {
 
 /* A tag, and a length of a size_t in at most one octet more, come before the octets. */
 static PyObject *identifier_der(PyObject *self, void *Py_UNUSED(closure)) {
-    Output out;
+    OUTPUT out;
     const_oid_octets octets = octets_of(self);
     if (!reserve(&out, octets.len + 2 + sizeof octets.len, 1)) return NULL;
     return finish(&out, self, const_oid_to_der(octets.octets, octets.len, out.start, out.len), self);
@@ -297,10 +289,11 @@ static PyObject *identifier_parent(PyObject *self, void *Py_UNUSED(closure)) {
 }
 
 static PyObject *identifier_child(PyObject *self, PyObject *item) {
-    Output out;
     long long arc = read_arc(item);
     const_oid_octets octets = octets_of(self);
-    if (arc < 0 || !reserve(&out, octets.len + ARC_OCTETS, 1)) return NULL;
+    if (arc < 0) return NULL;
+    OUTPUT out;
+    if (!reserve(&out, octets.len + ARC_OCTETS, 1)) return NULL;
     const_oid_status status = const_oid_push_arc(octets.octets, octets.len, (uint32_t)arc, out.start, out.len);
     return make(Py_TYPE(self), finish(&out, self, arc > UINT32_MAX ? past_32_bits(status) : status, item));
 }
@@ -314,13 +307,11 @@ static PyObject *identifier_starts_with(PyObject *self, PyObject *prefix) {
 
 /* Text has at most four bytes for each octet. */
 static PyObject *identifier_str(PyObject *self) {
-    Output out;
+    OUTPUT out;
     const_oid_octets octets = octets_of(self);
     if (!reserve(&out, octets.len, 4)) return NULL;
     const_oid_status status = const_oid_to_text(octets.octets, octets.len, out.start, 4 * out.len);
-    PyObject *result = PyUnicode_FromStringAndSize(out.start, (Py_ssize_t)status.len);
-    release(&out);
-    return result;
+    return PyUnicode_FromStringAndSize(out.start, (Py_ssize_t)status.len);
 }
 
 static PyObject *identifier_repr(PyObject *self) {
