@@ -101,8 +101,9 @@ static inline void release(Output *out) {
 }
 #define OUTPUT __attribute__((cleanup(release))) Output
 
-/* The octets that a call wrote, or its error. */
-static PyObject *finish(const Output *out, PyObject *self, const_oid_status status, PyObject *given) {
+/* The octets that a call wrote, or its error. An arc past 32 bits, which it did not get, is wrong if none before is. */
+static PyObject *finish(const Output *out, PyObject *self, const_oid_status status, int is_past, PyObject *given) {
+    if (is_past && (!status.code || status.code == CONST_OID_EMPTY)) status.code = CONST_OID_ARC_TOO_BIG;
     if (status.code) return raise_status(self, status, given);
     return PyBytes_FromStringAndSize(out->start, (Py_ssize_t)status.len);
 }
@@ -119,16 +120,15 @@ PyObject *identifier_from_text(PyObject *type, PyObject *text) {
     OUTPUT out;
     if (!reserve(&out, (size_t)len, 1)) return NULL;
     const_oid_status status = const_oid_from_text(data, (size_t)len, out.start, out.len);
-    return allocate((PyTypeObject *)type, finish(&out, type, status, text));
+    return allocate((PyTypeObject *)type, finish(&out, type, status, 0, text));
 }
 
 static PyObject *identifier_new(PyTypeObject *type, PyObject *arguments, PyObject *keywords) {
     static char *names[] = {"text", NULL};
     PyObject *given;
-    if (keywords ? !PyArg_ParseTupleAndKeywords(arguments, keywords, "O:ObjectIdentifier", names, &given)
-                 : !PyArg_UnpackTuple(arguments, "ObjectIdentifier", 1, 1, &given)) {
-        return NULL;
-    }
+    int is_one = keywords ? PyArg_ParseTupleAndKeywords(arguments, keywords, "O:ObjectIdentifier", names, &given)
+                          : PyArg_UnpackTuple(arguments, "ObjectIdentifier", 1, 1, &given);
+    if (!is_one) return NULL;
     if (PyUnicode_Check(given)) return identifier_from_text((PyObject *)type, given);
     if (!is_identifier(given)) return raise_wrong_type((PyObject *)type, "text must be a str", given);
     if (Py_TYPE(given) == type && is_plain(type)) return Py_NewRef(given);
@@ -202,12 +202,11 @@ static PyObject *identifier_read_der(PyObject *type, PyObject *given) {
 
 /* An integer, or the greatest of 64 bits in place of all that are greater. It is negative with an exception. */
 static long long read_arc(PyObject *item) {
-    OWNED *number = PyNumber_Index(item);
-    if (!number) return -1;
     int overflow;
-    long long arc = PyLong_AsLongLongAndOverflow(number, &overflow);
+    long long arc = PyLong_AsLongLongAndOverflow(item, &overflow);
     if (overflow > 0) return INT64_MAX;
-    if (arc < 0) PyErr_Format(PyExc_ValueError, overflow ? "an arc is negative" : "an arc is negative: %lld", arc);
+    const char *text = overflow ? "an arc is negative" : "an arc is negative: %lld";
+    if (arc < 0 && !PyErr_Occurred()) PyErr_Format(PyExc_ValueError, text, arc);
     return arc;
 }
 
@@ -223,12 +222,6 @@ static Py_ssize_t read_arcs(PyObject *items, Py_ssize_t count, uint32_t *arcs) {
     return fitting;
 }
 
-/* An arc past 32 bits is wrong if none before it is. */
-static const_oid_status past_32_bits(const_oid_status before) {
-    const_oid_status status = {CONST_OID_ARC_TOO_BIG, 0, 0};
-    return before.code && before.code != CONST_OID_EMPTY ? before : status;
-}
-
 static PyObject *identifier_from_arcs(PyObject *type, PyObject *given) {
     if (PyUnicode_Check(given) || is_octets(given) || PyAnySet_Check(given) || PyDict_Check(given)) {
         return raise_wrong_type(type, "arcs must be an iterable of int", given);
@@ -242,7 +235,7 @@ static PyObject *identifier_from_arcs(PyObject *type, PyObject *given) {
     OUTPUT out;
     if (!reserve(&out, ARC_OCTETS * (size_t)fitting, 1)) return NULL;
     const_oid_status status = const_oid_from_arcs(arcs.start, (size_t)fitting, out.start, out.len);
-    return make((PyTypeObject *)type, finish(&out, type, fitting < count ? past_32_bits(status) : status, items));
+    return make((PyTypeObject *)type, finish(&out, type, status, fitting < count, items));
 }
 
 /* Octets have at most one arc more than there are octets. A finalizer may ask for the arcs while they are made. */
@@ -277,7 +270,7 @@ static PyObject *identifier_der(PyObject *self, void *Py_UNUSED(closure)) {
     OUTPUT out;
     const_oid_octets octets = octets_of(self);
     if (!reserve(&out, octets.len + 2 + sizeof octets.len, 1)) return NULL;
-    return finish(&out, self, const_oid_to_der(octets.octets, octets.len, out.start, out.len), self);
+    return finish(&out, self, const_oid_to_der(octets.octets, octets.len, out.start, out.len), 0, self);
 }
 
 /* The octets of a parent are a prefix, of the length that a call without output needs. */
@@ -295,7 +288,7 @@ static PyObject *identifier_child(PyObject *self, PyObject *item) {
     OUTPUT out;
     if (!reserve(&out, octets.len + ARC_OCTETS, 1)) return NULL;
     const_oid_status status = const_oid_push_arc(octets.octets, octets.len, (uint32_t)arc, out.start, out.len);
-    return make(Py_TYPE(self), finish(&out, self, arc > UINT32_MAX ? past_32_bits(status) : status, item));
+    return make(Py_TYPE(self), finish(&out, self, status, arc > UINT32_MAX, item));
 }
 
 /* A prefix of the octets of an identifier that is valid itself has a prefix of its arcs. */
@@ -420,16 +413,14 @@ static PyObject *identifier_array(PyObject *self, PyObject *arguments, PyObject 
 static PyObject *identifier_reduce(PyObject *self, PyObject *Py_UNUSED(none)) {
     if (!is_plain(Py_TYPE(self))) return call_support(self, "reduced", Py_BuildValue("(O)", self));
     PyObject *restored = attribute(PyType_GetModule(Py_TYPE(self)), "restored");
-    return restored ? Py_BuildValue("N(O)", restored, ((Identifier *)self)->octets) : NULL;
+    return Py_BuildValue("N(O)", restored, ((Identifier *)self)->octets);
 }
 
 static PyObject *error_text(PyObject *Py_UNUSED(module), PyObject *arguments) {
     char text[CONST_OID_MAX_ERROR_TEXT];
     long long code, detail;
     if (!PyArg_ParseTuple(arguments, "LL", &code, &detail)) return NULL;
-    if (code != (uint32_t)code || detail != (uint32_t)detail) {
-        return PyErr_Format(PyExc_OverflowError, "a number has 32 bits");
-    }
+    if ((uint64_t)(code | detail) > UINT32_MAX) return PyErr_Format(PyExc_OverflowError, "a number has 32 bits");
     const_oid_status status = const_oid_error_text((uint32_t)code, (uint32_t)detail, text, sizeof text);
     if (status.code) return Py_NewRef(Py_None);
     return PyUnicode_FromStringAndSize(text, (Py_ssize_t)status.len);
