@@ -436,43 +436,36 @@ static PyObject *wrong_component(PyObject *Py_UNUSED(module), PyObject *text) {
 }
 
 static PyMethodDef identifier_methods[] = {
-    {"from_bytes", identifier_from_bytes, METH_O | METH_CLASS,
-        "from_bytes($type, octets, /)\n--\n\n"
+    {"from_bytes", identifier_from_bytes, METH_O | METH_CLASS, "from_bytes($type, octets, /)\n--\n\n"
         "Decodes contents octets: those after the tag and the length. An element, or the bytes of a text, is read\n"
         "without an error as another identifier: from_der takes an element, and ObjectIdentifier a text.\n\n"
         ">>> ObjectIdentifier.from_bytes(b\"\\x2a\\x86\\x48\"), ObjectIdentifier.from_bytes(b\"1.2\")\n"
         "(ObjectIdentifier('1.2.840'), ObjectIdentifier('1.9.46.50'))"},
-    {"from_der", identifier_from_der, METH_O | METH_CLASS,
-        "from_der($type, octets, /)\n--\n\n"
+    {"from_der", identifier_from_der, METH_O | METH_CLASS, "from_der($type, octets, /)\n--\n\n"
         "Decodes a whole element of DER: the tag 6, the length and the contents octets, with nothing after them.\n\n"
         ">>> ObjectIdentifier.from_der(b\"\\x06\\x03\\x2a\\x86\\x48\")\nObjectIdentifier('1.2.840')"},
-    {"read_der", identifier_read_der, METH_O | METH_CLASS,
-        "read_der($type, octets, /)\n--\n\n"
+    {"read_der", identifier_read_der, METH_O | METH_CLASS, "read_der($type, octets, /)\n--\n\n"
         "Decodes the element that octets begin with, and returns the identifier and the octets after it. Those of a\n"
         "contiguous memoryview of bytes are another one and no copy. An error has the octets of the element, at most\n"
         "128, so that a loop takes linear time.\n\n"
         ">>> ObjectIdentifier.read_der(b\"\\x06\\x03\\x2a\\x86\\x48\\x05\\x00\")\n"
         "(ObjectIdentifier('1.2.840'), b'\\x05\\x00')"},
-    {"from_arcs", identifier_from_arcs, METH_O | METH_CLASS,
-        "from_arcs($type, arcs, /)\n--\n\n"
+    {"from_arcs", identifier_from_arcs, METH_O | METH_CLASS, "from_arcs($type, arcs, /)\n--\n\n"
         "Encodes arcs. One past 32 bits has the same error as in text, and a negative one is a ValueError. All arcs\n"
         "are read first, so those without an end take all memory.\n\n"
         ">>> ObjectIdentifier.from_arcs([1, 2, 840])\nObjectIdentifier('1.2.840')"},
-    {"child", identifier_child, METH_O,
-        "child($self, arc, /)\n--\n\nThe child with one more arc, which is its last.\n\n"
+    {"child", identifier_child, METH_O, "child($self, arc, /)\n--\n\n"
+        "The child with one more arc, which is its last.\n\n"
         ">>> ObjectIdentifier(\"1.2\").child(840)\nObjectIdentifier('1.2.840')"},
-    {"starts_with", identifier_starts_with, METH_O,
-        "starts_with($self, prefix, /)\n--\n\n"
+    {"starts_with", identifier_starts_with, METH_O, "starts_with($self, prefix, /)\n--\n\n"
         "Whether the arcs begin with those of a prefix: whether it is this identifier or an ancestor.\n\n"
         ">>> oid = ObjectIdentifier(\"1.2.840\")\n"
         ">>> [oid.starts_with(ObjectIdentifier(text)) for text in (\"1.2\", \"1.2.840\", \"1.28\")]\n"
         "[True, True, False]"},
-    {"index", identifier_index, METH_VARARGS,
-        "index($self, arc, start=0, stop=sys.maxsize, /)\n--\n\nThe first index of an arc, or a ValueError.\n\n"
-        ">>> ObjectIdentifier(\"1.2.840.2\").index(2)\n1"},
-    {"count", identifier_count, METH_O,
-        "count($self, arc, /)\n--\n\nHow often an arc occurs.\n\n"
-        ">>> ObjectIdentifier(\"1.2.840.2\").count(2)\n2"},
+    {"index", identifier_index, METH_VARARGS, "index($self, arc, start=0, stop=sys.maxsize, /)\n--\n\n"
+        "The first index of an arc, or a ValueError.\n\n>>> ObjectIdentifier(\"1.2.840.2\").index(2)\n1"},
+    {"count", identifier_count, METH_O, "count($self, arc, /)\n--\n\n"
+        "How often an arc occurs.\n\n>>> ObjectIdentifier(\"1.2.840.2\").count(2)\n2"},
     {"__bytes__", identifier_bytes, METH_NOARGS, "__bytes__($self, /)\n--\n\nThe contents octets."},
     {"__format__", identifier_format, METH_O, "__format__($self, specification, /)\n--\n\nFormats str(self)."},
     {"__copy__", identifier_copied, METH_NOARGS, "__copy__($self, /)\n--\n\nItself, unless of a subclass."},
@@ -486,13 +479,10 @@ static PyMethodDef identifier_methods[] = {
 };
 
 static PyGetSetDef identifier_properties[] = {
-    {"arcs", identifier_arcs, NULL,
-        "All arcs, as a tuple.\n\n>>> ObjectIdentifier(\"2.999\").arcs\n(2, 999)", NULL},
-    {"der", identifier_der, NULL,
-        "The element of DER: the tag 6, the length and the contents octets.\n\n"
+    {"arcs", identifier_arcs, NULL, "All arcs, as a tuple.\n\n>>> ObjectIdentifier(\"2.999\").arcs\n(2, 999)", NULL},
+    {"der", identifier_der, NULL, "The element of DER: the tag 6, the length and the contents octets.\n\n"
         ">>> ObjectIdentifier(\"1.2.840\").der\nb'\\x06\\x03*\\x86H'", NULL},
-    {"parent", identifier_parent, NULL,
-        "The parent: all arcs except the last. None if there are only two.\n\n"
+    {"parent", identifier_parent, NULL, "The parent: all arcs except the last. None if there are only two.\n\n"
         ">>> ObjectIdentifier(\"1.2.840\").parent\nObjectIdentifier('1.2')", NULL},
     {0},
 };
@@ -503,8 +493,7 @@ static PyMemberDef identifier_members[] = {
 };
 
 static PyType_Slot identifier_slots[] = {
-    {Py_tp_doc,
-        "ObjectIdentifier(text)\n--\n\nAn object identifier: at least two arcs of 32 bits.\n\n"
+    {Py_tp_doc, "ObjectIdentifier(text)\n--\n\nAn object identifier: at least two arcs of 32 bits.\n\n"
         "The constructor parses dotted text of any length, or returns an identifier that it is given.\n\n"
         ">>> oid = ObjectIdentifier(\"2.999.3\")\n\n"
         "It is an immutable sequence of its arcs (collections.abc.Sequence).\n\n"
@@ -538,20 +527,18 @@ static PyType_Slot identifier_slots[] = {
 };
 
 /* Patterns take it for a sequence by a flag, which headers of the stable ABI do not name. */
-#define IS_SEQUENCE (1UL << 5) /* Py_TPFLAGS_SEQUENCE */
-
 static PyType_Spec identifier_spec = {
     "const_oid.ObjectIdentifier", sizeof(Identifier), 0,
-    Py_TPFLAGS_DEFAULT | Py_TPFLAGS_BASETYPE | Py_TPFLAGS_IMMUTABLETYPE | IS_SEQUENCE, identifier_slots,
+    Py_TPFLAGS_DEFAULT | Py_TPFLAGS_BASETYPE | Py_TPFLAGS_IMMUTABLETYPE | (1UL << 5 /* Py_TPFLAGS_SEQUENCE */),
+    identifier_slots,
 };
 
 /* The library may be an installed one, of another version than its header. */
 static int module_exec(PyObject *module) {
     unsigned long version = const_oid_version();
     if (version / 65536 != CONST_OID_VERSION_MAJOR) {
-        PyErr_Format(PyExc_ImportError, "the library const_oid_c has version %lu, not %d", version / 65536,
-            CONST_OID_VERSION_MAJOR);
-        return -1;
+        return PyErr_Format(PyExc_ImportError, "the library const_oid_c has version %lu, not %d", version / 65536,
+            CONST_OID_VERSION_MAJOR), -1;
     }
     OWNED *text = PyUnicode_FromFormat("%lu.%lu.%lu", version / 65536, version / 256 % 256, version % 256);
     OWNED *type = PyType_FromModuleAndSpec(module, &identifier_spec, NULL);

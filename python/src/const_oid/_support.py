@@ -24,8 +24,7 @@ OF_OTHERS = {"dotted_string": "its .dotted_string", "dotted": "its .dotted", "is
 # Shows a value as repr does, but cut if it is long. An int of more digits than Python prints is no error.
 _SHOWN = reprlib.Repr()
 setattr(_SHOWN, "repr_int", _SHOWN.repr_instance)
-_SHOWN.maxstring = _SHOWN.maxother = 60
-_SHOWN.maxtuple = 12
+_SHOWN.maxstring, _SHOWN.maxother, _SHOWN.maxtuple = 60, 60, 12
 shown = _SHOWN.repr
 
 
