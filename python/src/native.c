@@ -509,20 +509,12 @@ static PyType_Slot identifier_slots[] = {
         "...     def __init__(self, text):\n"
         "...         self.name = names.name_of(ObjectIdentifier(text))\n"
         ">>> Named(\"2.5.4\").child(3).name\n'cn'"},
-    {Py_tp_new, (void *)identifier_new},
-    {Py_tp_dealloc, (void *)identifier_dealloc},
-    {Py_tp_str, (void *)identifier_str},
-    {Py_tp_repr, (void *)identifier_repr},
-    {Py_tp_hash, (void *)identifier_hash},
-    {Py_tp_richcompare, (void *)identifier_compare},
-    {Py_tp_iter, (void *)identifier_iter},
-    {Py_sq_length, (void *)identifier_len},
-    {Py_sq_item, (void *)identifier_item},
-    {Py_sq_contains, (void *)identifier_contains},
-    {Py_mp_subscript, (void *)identifier_subscript},
-    {Py_tp_methods, identifier_methods},
-    {Py_tp_getset, identifier_properties},
-    {Py_tp_members, identifier_members},
+    {Py_tp_new, (void *)identifier_new}, {Py_tp_dealloc, (void *)identifier_dealloc},
+    {Py_tp_str, (void *)identifier_str}, {Py_tp_repr, (void *)identifier_repr}, {Py_tp_hash, (void *)identifier_hash},
+    {Py_tp_richcompare, (void *)identifier_compare}, {Py_tp_iter, (void *)identifier_iter},
+    {Py_sq_length, (void *)identifier_len}, {Py_sq_item, (void *)identifier_item},
+    {Py_sq_contains, (void *)identifier_contains}, {Py_mp_subscript, (void *)identifier_subscript},
+    {Py_tp_methods, identifier_methods}, {Py_tp_getset, identifier_properties}, {Py_tp_members, identifier_members},
     {0},
 };
 
