@@ -845,11 +845,8 @@ static PyObject *walk_hint(PyObject *self, PyObject *Py_UNUSED(none)) {
 static PyMethodDef walk_methods[] = {{"__length_hint__", walk_hint, METH_NOARGS, NULL}, {0}};
 
 static PyType_Slot walk_slots[] = {
-    {Py_tp_dealloc, (void *)walk_dealloc},
-    {Py_tp_traverse, (void *)walk_traverse},
-    {Py_tp_iter, (void *)PyObject_SelfIter},
-    {Py_tp_iternext, (void *)walk_next},
-    {Py_tp_methods, walk_methods},
+    {Py_tp_dealloc, (void *)walk_dealloc}, {Py_tp_traverse, (void *)walk_traverse},
+    {Py_tp_iter, (void *)PyObject_SelfIter}, {Py_tp_iternext, (void *)walk_next}, {Py_tp_methods, walk_methods},
     {0},
 };
 
@@ -887,46 +884,38 @@ static PyObject *table_walk(PyObject *self, PyObject *way) {
 #define NAMED(function) (PyCFunction)(void (*)(void))function, METH_FASTCALL | METH_KEYWORDS
 
 static PyMethodDef table_methods[] = {
-    {"get", NAMED(table_get),
-        "get($self, /, key, default=None)\n--\n\nThe value of a key, or else a default.\n\n"
+    {"get", NAMED(table_get), "get($self, /, key, default=None)\n--\n\nThe value of a key, or else a default.\n\n"
         ">>> SortedMap().get(ObjectIdentifier(\"2.5\"), 0)\n0"},
-    {"pop", NAMED(table_pop),
-        "pop($self, /, key, default=...)\n--\n\n"
+    {"pop", NAMED(table_pop), "pop($self, /, key, default=...)\n--\n\n"
         "Removes a key and returns its value, or else a default, or raises a KeyError.\n\n"
         ">>> SortedMap().pop(ObjectIdentifier(\"2.5\"), 0)\n0"},
-    {"setdefault", NAMED(table_setdefault),
-        "setdefault($self, /, key, default=None)\n--\n\n"
+    {"setdefault", NAMED(table_setdefault), "setdefault($self, /, key, default=None)\n--\n\n"
         "The value of a key, which is set to a default if it has none.\n\n"
         ">>> SortedMap().setdefault(ObjectIdentifier(\"2.5\"), 0)\n0"},
-    {"popitem", table_popitem, METH_NOARGS,
-        "popitem($self, /)\n--\n\nRemoves the last entry and returns it, or raises a KeyError if there is none.\n\n"
+    {"popitem", table_popitem, METH_NOARGS, "popitem($self, /)\n--\n\n"
+        "Removes the last entry and returns it, or raises a KeyError if there is none.\n\n"
         ">>> SortedMap({ObjectIdentifier(\"2.6\"): 2, ObjectIdentifier(\"2.5\"): 1}).popitem()\n"
         "(ObjectIdentifier('2.6'), 2)"},
-    {"clear", table_clear, METH_NOARGS,
-        "clear($self, /)\n--\n\nRemoves all entries.\n\n"
+    {"clear", table_clear, METH_NOARGS, "clear($self, /)\n--\n\nRemoves all entries.\n\n"
         ">>> table = SortedMap({ObjectIdentifier(\"2.5\"): \"directory\"})\n"
         ">>> table.clear(), table\n(None, SortedMap({}))"},
-    {"update", table_update, METH_VARARGS,
-        "update($self, entries=(), /)\n--\n\n"
+    {"update", table_update, METH_VARARGS, "update($self, entries=(), /)\n--\n\n"
         "Sets all entries of a mapping or an iterable, or none if a key is no identifier.\n\n"
         ">>> table = SortedMap({ObjectIdentifier(\"2.5\"): 1})\n"
         ">>> table.update({ObjectIdentifier(\"2.5\"): 2, ObjectIdentifier(\"2.4\"): 3})\n"
         ">>> table\nSortedMap({ObjectIdentifier('2.4'): 3, ObjectIdentifier('2.5'): 2})"},
-    {"nearest", NAMED(table_nearest),
-        "nearest($self, /, oid)\n--\n\n"
+    {"nearest", NAMED(table_nearest), "nearest($self, /, oid)\n--\n\n"
         "The entry whose key is the longest prefix of an identifier, or None. A slice gives the arcs after the key.\n\n"
         ">>> keys = ObjectIdentifier(\"2.5\"), ObjectIdentifier(\"2.5.4\")\n"
         ">>> names = SortedMap(zip(keys, [\"directory\", \"attributes\"]))\n"
-        ">>> names.nearest(oid := ObjectIdentifier(\"2.5.4.3\"))\n"
-        "(ObjectIdentifier('2.5.4'), 'attributes')\n"
+        ">>> names.nearest(oid := ObjectIdentifier(\"2.5.4.3\"))\n(ObjectIdentifier('2.5.4'), 'attributes')\n"
         ">>> oid[len(names.nearest(oid)[0]) :]\n(3,)"},
-    {"next_after", NAMED(table_next_after),
-        "next_after($self, /, oid)\n--\n\n"
+    {"next_after", NAMED(table_next_after), "next_after($self, /, oid)\n--\n\n"
         "The first entry after an identifier, as GetNext of SNMP returns it, or None.\n\n"
         ">>> names = SortedMap({ObjectIdentifier(\"2.5.4\"): 1, ObjectIdentifier(\"2.5.10\"): 2})\n"
         ">>> names.next_after(ObjectIdentifier(\"2.5.4\"))\n(ObjectIdentifier('2.5.10'), 2)"},
-    {"subtree", NAMED(table_subtree),
-        "subtree($self, /, oid)\n--\n\nAll entries whose keys begin with an identifier, which may be a key itself.\n\n"
+    {"subtree", NAMED(table_subtree), "subtree($self, /, oid)\n--\n\n"
+        "All entries whose keys begin with an identifier, which may be a key itself.\n\n"
         ">>> arcs = [(2, 5, 4), (2, 5, 4, 3), (2, 6)]\n"
         ">>> names = SortedMap(zip(map(ObjectIdentifier.from_arcs, arcs), [1, 2, 3]))\n"
         ">>> names.subtree(ObjectIdentifier(\"2.5\"))\n"
@@ -941,15 +930,10 @@ static PyMethodDef table_methods[] = {
 
 static PyType_Slot table_slots[] = {
     {Py_tp_doc, "Table(entries=())\n--\n\nEntries in the order of arcs: see SortedMap."},
-    {Py_tp_init, (void *)table_init},
-    {Py_tp_dealloc, (void *)table_dealloc},
-    {Py_tp_traverse, (void *)table_traverse},
-    {Py_tp_clear, (void *)table_clear_all},
-    {Py_tp_iter, (void *)table_iter},
-    {Py_sq_contains, (void *)table_contains},
-    {Py_mp_length, (void *)table_len},
-    {Py_mp_subscript, (void *)table_subscript},
-    {Py_mp_ass_subscript, (void *)table_set},
+    {Py_tp_init, (void *)table_init}, {Py_tp_dealloc, (void *)table_dealloc},
+    {Py_tp_traverse, (void *)table_traverse}, {Py_tp_clear, (void *)table_clear_all},
+    {Py_tp_iter, (void *)table_iter}, {Py_sq_contains, (void *)table_contains}, {Py_mp_length, (void *)table_len},
+    {Py_mp_subscript, (void *)table_subscript}, {Py_mp_ass_subscript, (void *)table_set},
     {Py_tp_methods, table_methods},
     {0},
 };

@@ -248,7 +248,8 @@ class Sorted(unittest.TestCase):
     def test_a_map_is_made_and_shown_as_a_dict_is(self):
         table = SortedMap({(oid := ObjectIdentifier("2.5")): 1})
         self.assertEqual(({oid: 1}, table), (table, SortedMap([(oid, 1)])))
-        self.assertEqual([(oid, 3), (KEYS[0], 1)][::-1], [*SortedMap([(oid, 2), (KEYS[0], 1), (oid, 3)]).items()])
+        for given in itertools.permutations([(oid, 2), (KEYS[0], 1), (oid, 3)]):
+            self.assertEqual([(KEYS[0], 1), (oid, dict(given)[oid])], [*SortedMap(given).items()])
         others = {oid: 2}, {oid.child(0): 1}, {"2.5": 1}, {}, {oid: 1, oid.child(0): 1}, [oid], None
         self.assertEqual(7 * [(True, True)], [(table != other, other != table) for other in others])
         self.assertEqual([(oid, None), (oid.child(0), None)], list(SortedMap.fromkeys([oid.child(0), oid]).items()))
