@@ -10,7 +10,6 @@ import contextlib
 import sys
 import time
 import timeit
-import tracemalloc
 
 # What each side has. If it has no name that a call needs, the cell is empty.
 SIDES = {
@@ -57,14 +56,18 @@ after, near = lambda oid: table.next_after(oid), lambda oid: table.nearest(oid)"
 after = lambda oid: table.peekitem(table.bisect_right(oid))""",
     "dict": "kind = dict",
 }
-OF_MAP = """import collections, pickle
+OF_MAP = """import collections, pickle, tracemalloc
 from const_oid import ObjectIdentifier
 drain = collections.deque(maxlen=0).extend
 oids = [ObjectIdentifier(f"1.3.6.1.2.1.{index * 7919 % count}.{index % 7}") for index in range(count)]
 entries, others = dict.fromkeys(oids, 1), {key.child(8): 1 for key in oids}
 oid, last = oids[count // 2], ObjectIdentifier("2.999")
 new, one, ten, table = oid.child(7), {oid: 1}, dict.fromkeys(oids[:10], 1), kind(entries)
-pickled = pickle.dumps(table)"""
+pickled = pickle.dumps(table)
+tracemalloc.start()
+made = kind(entries)
+octets = tracemalloc.get_traced_memory()[0] / len(made)
+tracemalloc.stop()"""
 CALLS = ["table[new] = 1; del table[new]", "table[new] = 1; table.pop(new)", "table[last] = 1; table.popitem()"]
 CALLS += ["table[oid] = 1", "table[oid]", "table.get(oid)", "table.get(new)", "oid in table", "new in table"]
 CALLS += ["table.setdefault(oid)", "table.pop(new, 0)", "table.update(one)", "table.update(ten)", "near(new)"]
@@ -84,20 +87,11 @@ def timer_of(names, setup, call):
     return None
 
 
-def octets_of(names):
-    """How much memory a map takes for each key."""
-    tracemalloc.start()
-    made = names["kind"](names["entries"])
-    size = tracemalloc.get_traced_memory()[0]
-    tracemalloc.stop()
-    return size / len(made)
-
-
 def print_row(row, cells):
     print(f"{row:34}" + "".join(f"{cell:>20}" for cell in cells), flush=True)
 
 
-def times_of(row, timers, each=1):
+def times_of(row, timers, each):
     """Prints the best time of each call, in short turns, since other work on the machine only adds to it."""
     shortest = min(timer.timeit(3) / 3 for timer in timers if timer)
     number, rounds = 1 + int(1e-4 / shortest), 400 if shortest < 0.01 else 5
@@ -107,39 +101,32 @@ def times_of(row, timers, each=1):
     return times
 
 
-def found(sides):
-    """Those that are installed, with the names of each."""
+def slower(title, sides, setup, rows, count=1):
+    """Prints the rows of the sides that are installed, and yields those in which the first side is slower."""
+    spaces = {}
     for name, side in sides.items():
         with contextlib.suppress(ImportError):
-            exec(side, {})
-            yield f"{name} {getattr(sys.modules.get(name.lower()), '__version__', '')}", side
-
-
-def slower_maps(count):
-    """Prints the rows of maps, and yields those in which a SortedDict is faster."""
-    sides = dict(found(MAPS))
-    spaces = [{"count": count} for _ in sides]
-    for side, names in zip(sides.values(), spaces):
-        exec(f"{side}\n{OF_MAP}", names)
-    print_row(f"\n{count:,} keys", sides)
-    for call in CALLS + OF_ALL:
-        times = times_of(call, [timer_of(names, "", call) for names in spaces], count if call in OF_ALL else 1)
-        if len(times) == 3 and times[1] and times[0] > times[1]:
-            yield f"slower: {call}, {count:,} keys"
-    print_row("octets a key", [format(octets_of(names), ".1f") for names in spaces])
+            exec(side, names := {"count": count})
+            spaces[f"{name} {getattr(sys.modules.get(name.lower()), '__version__', '')}"] = names
+            exec(setup, names)
+    print_row(title, spaces)
+    for row, (needed, call) in rows.items():
+        timers = [timer_of({**names}, needed, call) for names in spaces.values()]
+        times = times_of(row, timers, count if call in OF_ALL else 1)
+        aside = ("tuple", "dict", "asn1crypto" if row == "identifier to text" else "dict")
+        ours, *others = [time for name, time in zip(spaces, times) if time and not name.startswith(aside)]
+        if others and ours > min(others):
+            yield f"slower: {row}"
+    if sides is MAPS:
+        print_row("octets a key", [format(names["octets"], ".1f") for names in spaces.values()])
 
 
 def main():
-    sides, slower = dict(found(SIDES)), []
-    print_row("", sides)
-    for row, (setup, call) in ROWS.items():
-        times = times_of(row, [timer_of({}, f"{side}\n{SETUP}\n{setup}", call) for side in sides.values()])
-        kept = "asn1crypto" if row == "identifier to text" else "tuple"
-        ours, *others = [time for name, time in zip(sides, times) if time and not name.startswith(("tuple", kept))]
-        if others and ours > min(others):
-            slower.append(f"slower: {row}")
-    slower += [row for count in (1000, 100_000) for row in slower_maps(count)]
-    return "\n".join(slower) or None
+    rows = list(slower("", SIDES, SETUP, ROWS))
+    calls = {call: ("", call) for call in CALLS + OF_ALL}
+    for keys, count in (("1,000 keys", 1000), ("100,000 keys", 100_000)):
+        rows += [f"{row}, {keys}" for row in slower(f"\n{keys}", MAPS, OF_MAP, calls, count)]
+    return "\n".join(rows) or None
 
 
 sys.exit(main())
