@@ -37,13 +37,9 @@ def element(digits):
     return f"{len(oid.der)} bytes, {digits_of(oid)}" if oid.der + rest == octets else "another element"
 
 
-def order_of(left, right):
-    return "less" if left < right else "greater" if left > right else "equal"
-
-
 def in_order(*oids):
     pairs = itertools.product(enumerate(oids), repeat=2)
-    return "in order" if all(order_of(a, b) == order_of(i, j) for (i, a), (j, b) in pairs) else "not in order"
+    return "in order" if all((a < b, a > b) == (i < j, i > j) for (i, a), (j, b) in pairs) else "not in order"
 
 
 def searched(oid, *items):
@@ -67,7 +63,7 @@ CALLS = {
     "child": of_words(lambda digits, arc: digits_of(oid_of(digits).child(int(arc))), str),
     "begins": of_words(lambda oid, prefix: "yes" if oid.starts_with(prefix) else "no"),
     "equal": of_words(lambda left, right: "yes" if left == right else "no"),
-    "by_arcs": of_words(order_of),
+    "by_arcs": of_words(lambda left, right: "less" if left < right else "greater" if left > right else "equal"),
     "by_arcs_order": of_words(in_order),
     "list": of_words(searched),
     "error": of_words(lambda code, detail: error_text(code, detail) or "none", int),
