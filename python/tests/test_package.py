@@ -85,16 +85,15 @@ class Package(unittest.TestCase):
         self.assertTrue(is_linear(found, lambda count: (b"\6\x0d\x2a" + bytes(12)) * count))
 
     def test_numpy_and_pandas_take_an_identifier_as_one_value(self):
-        oids = [ObjectIdentifier("2.5.4"), ObjectIdentifier("2.5.6")]
+        oid, _ = oids = [ObjectIdentifier("2.5.4"), ObjectIdentifier("2.5.6")]
         other = types.SimpleNamespace(empty=lambda shape, kind: {"made": (shape, kind)})
         with mock.patch.dict(sys.modules, numpy=other):
             for given in ((), (None,), ("O", False)):
-                self.assertEqual({"made": ((), "O"), (): oids[0]}, oids[0].__array__(*given))
+                self.assertEqual({"made": ((), "O"), (): oid}, oid.__array__(*given))
         for numpy in self.enterContext(installed("numpy")):
-            array, one = numpy.array(oids), numpy.asarray(oids[0])
+            array, one = numpy.array(oids), numpy.asarray(oid)
             found = array.shape, array.dtype.char, array.tolist(), one.shape, one[()]
-            self.assertEqual(((2,), "O", oids, (), oids[0]), found)
-        oid = oids[0]
+            self.assertEqual(((2,), "O", oids, (), oid), found)
         for pandas in self.enterContext(installed("pandas")):
             frame = pandas.DataFrame({"oid": [oid, oid.child(3)], "one": oid})
             frame["set"] = frame.loc[1, "oid"] = frame.iloc[0, 0] = frame.at[1, "one"] = oid
@@ -105,27 +104,23 @@ class Package(unittest.TestCase):
 
     def test_pydantic_takes_and_gives_text(self):
         """pydantic, and the version 1 that is in version 2, take text or an identifier, and give text in JSON."""
+        oid, texts = ObjectIdentifier("2.5.4"), {"oid": "2.5.4", "key": type("Text", (str,), {})("2.5.4.3")}
         found = self.enterContext(installed("pydantic", "pydantic.v1"))
-        for pydantic in found:
-            with self.subTest(pydantic):
-                self.check_model(pydantic.create_model("Model", oid=(ObjectIdentifier, ...), key=(Under, ...)))
+        for model in [one.create_model("Model", oid=(ObjectIdentifier, ...), key=(Under, ...)) for one in found]:
+            with self.subTest(model):
+                for made in (model(**texts), model(oid=oid, key=oid.child(3)), model(oid=oid, key=Under("2.5.4.3"))):
+                    self.assertEqual((oid, oid.child(3), Under), (made.oid, made.key, type(made.key)))
+                    self.assertEqual((texts, made), (json.loads(made.json()), model.parse_raw(made.json())))
+                for wrong in ("1.40", 3, None, [2, 5], b"2.5.4", bytearray(b"2.5.4")):
+                    self.assertIsInstance(error_of(lambda: model(oid=wrong, key="2.5.4.3")), ValueError)
+                error = error_of(lambda: model(oid="1.40", key="2.5.4.3"))
+                for text in (str(error), error.json(), repr(error.errors())):
+                    self.assertIn("OID contains out-of-range arc: 40, given '1.40'", text)
+                self.assertIn(error.errors()[0]["type"], ("value_error", "value_error.oid"))
+                if hasattr(model, "model_json_schema"):
+                    self.assertEqual("string", model.model_json_schema()["properties"]["oid"]["type"])
         if not found:
             self.skipTest("pydantic is not installed")
-
-    def check_model(self, model):
-        oid = ObjectIdentifier("2.5.4")
-        texts = {"oid": "2.5.4", "key": type("Text", (str,), {})("2.5.4.3")}
-        for made in (model(**texts), model(oid=oid, key=oid.child(3)), model(oid=oid, key=Under("2.5.4.3"))):
-            self.assertEqual((oid, oid.child(3), Under), (made.oid, made.key, type(made.key)))
-            self.assertEqual((texts, made), (json.loads(made.json()), model.parse_raw(made.json())))
-        for wrong in ("1.40", 3, None, [2, 5], b"2.5.4", bytearray(b"2.5.4")):
-            self.assertIsInstance(error_of(lambda: model(oid=wrong, key="2.5.4.3")), ValueError)
-        error = error_of(lambda: model(oid="1.40", key="2.5.4.3"))
-        for text in (str(error), error.json(), repr(error.errors())):
-            self.assertIn("OID contains out-of-range arc: 40, given '1.40'", text)
-        self.assertIn(error.errors()[0]["type"], ("value_error", "value_error.oid"))
-        if hasattr(model, "model_json_schema"):
-            self.assertEqual("string", model.model_json_schema()["properties"]["oid"]["type"])
 
     def test_codes_and_version_are_those_of_the_header(self):
         codes = dict(re.findall(r"CONST_OID_(\w+) = (\d+)", HEADER.split("enum const_oid_code")[1].split("}")[0]))
@@ -143,7 +138,6 @@ class Package(unittest.TestCase):
         self.assertEqual((0, [True, True]), (ObjectIdentifier("2.5").ndim, same))
         self.assertEqual({"const_oid"}, {value.__module__ for value in (ObjectIdentifier, OidError, Code)})
         self.assertEqual((Code.EMPTY, 5, set(Code.__members__)), (Code(5), Code.EMPTY, set(dir(Code))))
-        self.assertLess({"code", "detail", "given", "piece"}, set(dir(OidError)))
         self.assertEqual(["class Code(", "class OidEr"], [inspect.getsource(kind)[:11] for kind in (Code, OidError)])
 
     @unittest.skipIf(sys.version_info < (3, 15), "this Python has no lazy imports")
@@ -157,7 +151,7 @@ class Package(unittest.TestCase):
     def test_help_has_what_is_public(self):
         said = pydoc.render_doc(const_oid, renderer=pydoc.plaintext)
         self.assertEqual(const_oid.__all__[:4], re.findall(r"^    class (\w+)", said, re.M))
-        for field, words in {"code": "Why", "detail": "The arc", "given": "The text"}.items():
+        for field, words in {"code": "Why", "detail": "The arc", "given": "The text", "piece": "The index"}.items():
             self.assertRegex(said, rf" {field}\n .*{words}")
         self.assertNotRegex(said, r"\nFUNCTIONS\n|builtins\.int:|bit_length")
 
