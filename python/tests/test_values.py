@@ -81,22 +81,20 @@ def index(call=int):
 OWN_ERRORS = [mock.Mock(side_effect=kind("own")) for kind in (IndexError, ValueError)]
 RAISING = type("Raising", (), dict(zip(("__index__", "__eq__"), OWN_ERRORS)))()
 
-# What is no identifier, and calls with an argument that has to be one, by its name.
-NOT_OIDS = {"str (ObjectIdentifier takes text)": "1.2", "bytes (from_bytes takes octets)": OCTETS, "NoneType": None,
-    "tuple (from_arcs takes arcs)": (1, 2), "test_values.Arcs": type("Arcs", (), {"arcs": OID.arcs})()}
-OF_KEYS = [TABLE.nearest, TABLE.next_after, TABLE.subtree, TABLE.get, TABLE.__getitem__, TABLE.__delitem__]
-OF_KEYS += [TABLE.__contains__, lambda key: SortedMap({key: 1}), lambda key: TABLE.update({OID: 1, key: 1})]
-OF_KEYS += [lambda key: TABLE.pop(key, None), lambda key: TABLE.setdefault(key, 1)]
-OF_KEYS.append(lambda key: TABLE.__setstate__((None, {"_values": {key: 1}})))
-OF_OIDS = {"key": OF_KEYS, "oid": [names.name_of, names.names_of, names.display], "prefix": [OID.starts_with]}
+# Values by what an error calls their type, and calls with an argument that has to be an identifier, by its name.
+OTHERS = {"bytes (from_bytes takes octets)": [b"1.2", OCTETS], "tuple (from_arcs takes arcs)": [(1, 2), ("1", "2")],
+    "NoneType": [None], "int": [1], "float": [1.2], "test_values.Arcs": [type("Arcs", (), {"arcs": OID.arcs})()]}
+NOT_OIDS = OTHERS | {"str (ObjectIdentifier takes text)": ["1.2"]}
+OF_OTHERS = [("cryptography.x509", "dotted_string", "its .dotted_string"), ("asn1crypto.core", "dotted", "its .dotted")]
+NOT_TEXTS = {f"{module}.Other (ObjectIdentifier takes {hint})": [type("Other", (), {"__module__": module, field: 0})()]
+    for module, field, hint in [*OF_OTHERS, ("pyasn1.type.univ", "isPrefixOf", "its str()")]} | OTHERS
+OF_OIDS = {"oid": [names.name_of, names.names_of, names.display], "prefix": [OID.starts_with], "key": [
+    TABLE.nearest, TABLE.next_after, TABLE.subtree, TABLE.get, TABLE.__getitem__, TABLE.__delitem__, TABLE.__contains__,
+    lambda key: SortedMap({key: 1}), lambda key: TABLE.update({OID: 1, key: 1}), lambda key: TABLE.pop(key, None),
+    lambda key: TABLE.setdefault(key, 1), lambda key: TABLE.__setstate__((None, {"_values": {key: 1}}))]}
 
 # Errors of Python: their type, what they say if it is of this package, the call and its inputs.
-OF_OTHERS = [("cryptography.x509", "dotted_string", "its .dotted_string"), ("asn1crypto.core", "dotted", "its .dotted")]
-NOT_TEXTS = {f"{module}.Other (ObjectIdentifier takes {hint})": type("Other", (), {"__module__": module, field: None})()
-    for module, field, hint in [*OF_OTHERS, ("pyasn1.type.univ", "isPrefixOf", "its str()")]}
-NOT_TEXTS |= {"bytes (from_bytes takes octets)": b"1", "tuple (from_arcs takes arcs)": (1, 2), "int": 1}
 REJECTED = [
-    (TypeError, "", ObjectIdentifier, [b"1.2", None, 1, 1.2, ("1", "2")]),
     (TypeError, "", from_bytes, ["2.999", None, 42, [42, 3], OID, array.array("B", [42])]),
     (TypeError, "", from_der, ["2.999", None, 42, [6, 1, 42], OID, array.array("B", [6, 1, 42])]),
     (TypeError, "", from_arcs, ["", "12", b"\1\2", bytearray(b"\1"), memoryview(b"\1\2"), None, 1, [1, "2"]]),
@@ -104,12 +102,9 @@ REJECTED = [
     *((TypeError, f"arcs must be an iterable of int, not {text}", from_arcs, [kind({1: 2, 2: 3})]) for kind, text in (
         (collections.OrderedDict, "collections.OrderedDict"), (set, "set (a set has no order)"),
         (frozenset, "frozenset (a set has no order)"))),
-    (TypeError, "", OID.__format__, [b"", None]),
-    (ValueError, "", OID.__format__, ["d"]),
-    (TypeError, "specification must be a str, not int", OID.__format__, [5]),
     *((TypeError, "", call, ["1", 1.0, None, OID]) for call in (OID.child, OID.__getitem__)),
-    *((TypeError, f"{name} must be an ObjectIdentifier, not {text}", call, [given])
-        for name, calls in OF_OIDS.items() for call in calls for text, given in NOT_OIDS.items()),
+    *((TypeError, f"{name} must be an ObjectIdentifier, not {text}", call, inputs)
+        for name, calls in OF_OIDS.items() for call in calls for text, inputs in NOT_OIDS.items()),
     *((TypeError, f"{name} must be a str, not {type(given).__name__}", call, [given]) for given in (3, b"cn", None, OID)
         for call, name in ((names.by_name, "name"), (names.parse, "text"))),
     *((TypeError, f"octets must be bytes, bytearray or memoryview, not {text}", from_bytes, [given])
@@ -117,25 +112,28 @@ REJECTED = [
             ("str (ObjectIdentifier takes dotted text, and bytes.fromhex hexadecimal text)", "2A03"))),
     *((TypeError, "octets must be items of 1 byte, not 2: see memoryview.cast", call,
         [memoryview(array.array("H", [0x106, 42]))]) for call in (from_bytes, ObjectIdentifier.read_der)),
-    *((TypeError, f"text must be a str, not {text}", ObjectIdentifier, [given]) for text, given in NOT_TEXTS.items()),
+    *((TypeError, f"{name} must be a str, not {text}", call, inputs) for text, inputs in NOT_TEXTS.items()
+        for name, call in (("text", ObjectIdentifier), ("specification", OID.__format__))),
     *((ValueError, "an arc is negative: -2", call, [given]) for call, given in ((from_arcs, (1, -2)), (OID.child, -2))),
     (ValueError, "an arc is negative", OID.child, [-(10**5000)]),
     *((ValueError, f"{text} is not among the arcs", OID.index, [arc]) for text, arc in [("9", 9), ("'1'", "1")]),
-    (ValueError, "2 is not among the arcs", lambda stop: OID.index(2, 0, stop), [1]),
-    (TypeError, "", lambda start: OID.index(2, start), [None, "0", 1.0]),
+    (ValueError, "2 is not among the arcs", exec, ["OID.index(2, 0, 1)"]),
     *((KeyError, repr(OID), getattr(TABLE, name), [OID]) for name in ("__delitem__", "__getitem__", "pop")),
     *((TypeError, "", call, [[], [1], [(OID, 1)], iter([(OID, 1)])])
         for call in (lambda pairs: TABLE | pairs, lambda pairs: pairs | TABLE)),
-    (IndexError, "", lambda index: OID[index], [6, -7, 10**50, index()]),
     *((IndexError, "own", call, [RAISING]) for call in (OID.__getitem__, OID.child)),
     *((ValueError, "own", call, [RAISING]) for call in (OID.index, OID.count)),
     (ValueError, "own", lambda start: OID.index(3, start), [index(OWN_ERRORS[1])]),
-    (TypeError, "", lambda call: eval(f"OID.__{call}"), ["copy__(1)", "copy__(1, 2)", "deepcopy__()",
-        "deepcopy__({}, {})", "array__(1, 2, 3)", "array__(x=4)"]),
+    (AttributeError, "", exec, [change.format(name) for change in ("OID.{} = 1", "del OID.{}")
+        for name in ("arcs", "der", "parent", "_octets", "_known", "other", "__dict__")]),
+    (TypeError, "", exec, ["OID[0] = 1", "del OID[0]", "OID.__class__ = Under", "ObjectIdentifier.other = 1",
+        "del ObjectIdentifier.child", "ObjectIdentifier()", "ObjectIdentifier('1.2', '1.3')", "OID.__copy__(1)",
+        "OID.__copy__(1, 2)", "OID.__deepcopy__()", "OID.__deepcopy__({}, {})", "OID.__array__(1, 2, 3)",
+        "OID.__array__(x=4)", "OID.index(2, None)", "OID.index(2, '0')", "OID.index(2, 1.0)"]),
     (OverflowError, "a number has 32 bits", lambda numbers: OidError(*numbers),
         [(4, 2**32 + 120), (4, -1), (2**32 + 4, 120), (-1, 0)]),
     (OverflowError, "", lambda detail: OidError(4, detail), [2**64 + 120]),
-    (ValueError, "", OidError, [99]),
+    (ValueError, "", exec, ["OidError(99)", "f'{OID:d}'"]),
 ]
 
 # Subclasses with a state that is a tuple and without setattr; with a way of their own to be copied; and by copyreg.
@@ -171,26 +169,28 @@ def copies_of(value, protocols=range(pickle.HIGHEST_PROTOCOL + 1)):
     return [*pickles, copy.deepcopy(value), copy.deepcopy([value])[0]]
 
 
+def buffers_of(octets):
+    """A bytearray, a view of it, and other buffers of the same octets, some not in a row or of two dimensions."""
+    views = memoryview(source := bytearray(octets)), memoryview(b"\0" + octets)[1:], memoryview(octets[::-1])[::-1]
+    wide = [memoryview(octets).cast("B", shape) for shape in ([1, len(octets)], [len(octets), 1]) if octets]
+    return [source, *views, *wide, octets, type("Octets", (bytes,), {})(octets)]
+
+
 class Identifiers(unittest.TestCase):
     def test_octets_come_from_any_buffer(self):
+        """The rest after an element has any length. That of a memoryview in a row is one, of the same memory."""
         for call, octets in ((from_bytes, OCTETS), (from_der, b"\6\7" + OCTETS)):
-            source = bytearray(octets)
-            given = [octets, source, memoryview(source), memoryview(b"\0" + octets)[1:], memoryview(octets[::-1])[::-1]]
-            taken = [bytes(call(octets)) for octets in (*given, type("Octets", (bytes,), {})(octets))]
+            source, *others = buffers_of(octets)
+            taken = [bytes(call(given)) for given in (source, *others)]
             source[:] = bytes(len(source))
-            kept = [type(error_of(call, kind(b"\x80")).given) for kind in (bytearray, memoryview)]
-            self.assertEqual(([OCTETS] * 6, [bytes] * 8), (taken, [*map(type, taken), *kept]))
-
-    def test_the_rest_after_an_element(self):
-        """It has any length. That of a memoryview in a row is one, of the same memory."""
+            self.assertEqual({(bytes, OCTETS)}, {(type(found), found) for found in taken})
         for rest in (b"", bytes(3), bytes(range(256)) * 300):
-            octets = b"\6\7" + OCTETS + rest
-            view, wide = memoryview(bytearray(octets)), memoryview(octets).cast("B", [3, len(octets) // 3])
-            kinds = [(octets, bytes), (view.obj, bytes), (view, memoryview), (wide, bytes)]
-            for given, kind in [*kinds, (memoryview(octets[::-1])[::-1], memoryview)]:
+            source, view, *others = buffers_of(b"\6\7" + OCTETS + rest)
+            for given in (source, view, *others):
                 oid, found = OID.read_der(given)
+                kind = memoryview if getattr(given, "ndim", 2) == 1 else bytes
                 self.assertEqual((OID, rest, kind), (oid, bytes(found), type(found)))
-            self.assertIs(view.obj, OID.read_der(view)[1].obj)
+            self.assertIs(source, OID.read_der(view)[1].obj)
 
     def test_an_error_keeps_octets_of_the_element(self):
         """It has at most 128, and no buffer of the caller, and says the same of a view and of bytes."""
@@ -198,13 +198,12 @@ class Identifiers(unittest.TestCase):
                  b"\6": 1, b"\6\0": 2, b"\6\x7d\x80" + bytes(126): 127, b"\6\x7e\x80" + bytes(126): 128,
                  b"\6\x7f\x80" + bytes(126): 128, b"\6\x80\x2a": 3, b"\6\x81\xc8\x80" + bytes(250): 128}
         for octets, count in found.items():
-            views = memoryview(buffer := bytearray(octets)), memoryview(octets[::-1])[::-1]
-            views = [*views, memoryview(octets).cast("B", [1, len(octets)])]
-            for error in [error_of(ObjectIdentifier.read_der, given) for given in (octets, buffer, *views)]:
+            source, view, *others = buffers_of(octets)
+            for error in [error_of(ObjectIdentifier.read_der, given) for given in (source, view, *others)]:
                 self.assertEqual((bytes, octets[:count]), (type(error.given), error.given))
                 self.assertEqual({str(error)}, {str(other) for other in copies_of(error)})
-            views[0].release()
-            del buffer[:]
+            view.release()
+            del source[:]
             self.assertTrue(str(error).endswith(", given " + const_oid.shown(octets[:count])), error)
 
     def test_arcs_come_from_any_iterable(self):
@@ -214,8 +213,7 @@ class Identifiers(unittest.TestCase):
         self.assertEqual(((2, 5, 999), 1, OID, OID), found)
         made = [from_arcs(iter([2, index(own), 3])), from_arcs([2, index(lambda: from_arcs((1, 2, 5))), 3])]
         for change in ("clear", "pop", "reverse"):
-            arcs = [2]
-            arcs += [index(getattr(arcs, change)), 3]
+            (arcs := [2]).extend([index(getattr(arcs, change)), 3])
             made.append(from_arcs(arcs))
         self.assertEqual((["2.999.3"] * 5, 2), ([*map(str, made)], own.call_count))
 
@@ -237,20 +235,13 @@ class Identifiers(unittest.TestCase):
                 self.assertEqual(calls, {call: type(error_of(eval, call, {**scope})) for call in calls})
                 importlib.import_module("const_oid._support")
 
-    def test_an_identifier_in_place_of_a_text(self):
-        named, text = Named("2.999"), type("Text", (str,), {})(OID)
-        # As with tuple, another object of a subclass: else its __init__ would run again.
-        self.assertEqual((True, False, 1), (ObjectIdentifier(OID) is OID, Named(named) is named, named.calls))
-        made = [Under(OID), ObjectIdentifier(Under(OID)), ObjectIdentifier(text), ObjectIdentifier(text=str(OID))]
-        self.assertEqual(([Under, *[ObjectIdentifier] * 3], [OCTETS] * 4), ([*map(type, made)], [*map(bytes, made)]))
-        self.assertEqual([TypeError] * 2, [type(error_of(ObjectIdentifier, *given)) for given in ((), ("1.2", "1.3"))])
-
     def test_errors_say_what_is_wrong(self):
         for call, code, text, inputs in WRONG:
             for given, (detail, piece) in inputs.items():
-                error = error_of(call, given)
-                wanted = OidError, (code, detail), given, piece, f"{text}, given {given!r}"
-                self.assertEqual(wanted, (type(error), error.args, error.given, error.piece, str(error)), call)
+                wanted = OidError, (code, detail), type(given), given, piece, f"{text}, given {given!r}"
+                for error in [error_of(call, one) for one in (buffers_of(given) if type(given) is bytes else [given])]:
+                    found = type(error), error.args, type(error.given), error.given, error.piece, str(error)
+                    self.assertEqual(wanted, found, call)
         self.assertEqual((3, 1), error_of(from_arcs, iter((3, 1))).given)
 
     def test_long_inputs_are_cut(self):
@@ -286,10 +277,8 @@ class Identifiers(unittest.TestCase):
     def test_long_inputs_take_linear_time(self):
         def read(rest):
             while rest:
-                try:
-                    _, rest = ObjectIdentifier.read_der(rest)
-                except OidError as error:
-                    rest = rest[len(str(error)) and 256 :]
+                error = error_of(ObjectIdentifier.read_der, rest)
+                rest = rest[len(str(error)) and 256 :] if error else ObjectIdentifier.read_der(rest)[1]
 
         printed, piece = lambda text: str(ObjectIdentifier(text)), lambda text: error_of(ObjectIdentifier, text).piece
         text, wrong = lambda count: "1.2" + ".4294967295.7" * count, lambda count: text(count) + ".x"
@@ -303,11 +292,15 @@ class Identifiers(unittest.TestCase):
             for other in [*copies_of(oid), copy.copy(oid)]:
                 found = other, other.arcs, hash(other), type(other)
                 self.assertEqual((oid, oid.arcs, hash(bytes(oid)), type(oid)), found)
-        found = repr(Under("2.999")), Under(OID) == OID, Under(OID) < OID, {Under(OID): 1}
-        self.assertEqual(("Under('2.999')", True, False, {OID: 1}), found)
 
-    def test_a_subclass_is_called_with_an_identifier(self):
-        source = Named("2.999")
+    def test_a_class_is_called_with_an_identifier(self):
+        """As with tuple, it is the same object, but not of a subclass: else its __init__ would run again."""
+        text, source = type("Text", (str,), {})(OID), Named("2.999")
+        made = [Under(OID), ObjectIdentifier(Under(OID)), ObjectIdentifier(text), ObjectIdentifier(text=str(OID))]
+        self.assertEqual(([Under, *[ObjectIdentifier] * 3], [OCTETS] * 4), ([*map(type, made)], [*map(bytes, made)]))
+        OID.__init__("2.5")
+        setattr(type("Other", (ObjectIdentifier,), {}), "other", 1)
+        self.assertEqual((True, "1.2.840.10045.2.1"), (ObjectIdentifier(OID) is OID, str(OID)))
         made = [Named.from_bytes(b"\x88\x37"), Named.from_arcs((2, 999)), Named("2.999.1").parent, Named("2.999")]
         made += [Named.read_der(source.der)[0], Named(source), Named(OID).parent.parent.parent.parent.child(3).parent]
         made.append(source.child(7))
@@ -346,17 +339,6 @@ class Identifiers(unittest.TestCase):
             with mock.patch.object(_native, "ObjectIdentifier", other):
                 self.assertIs(TypeError, type(error_of(pickle.loads, old)))
 
-    def test_nothing_changes_an_identifier(self):
-        for name in ("arcs", "der", "parent", "_octets", "_known", "other"):
-            errors = error_of(setattr, OID, name, 1), error_of(delattr, OID, name)
-            self.assertEqual([AttributeError] * 2, [*map(type, errors)], name)
-        changes = [(operator.setitem, OID, 0, 1), (operator.delitem, OID, 0), (setattr, OID, "__class__", Under)]
-        changes += [(setattr, ObjectIdentifier, "other", 1), (delattr, ObjectIdentifier, "child")]
-        self.assertEqual([TypeError] * 5, [type(error_of(*call)) for call in changes])
-        setattr(type("Other", (ObjectIdentifier,), {}), "other", 1)
-        OID.__init__("2.5")
-        self.assertEqual(("1.2.840.10045.2.1", False), (str(OID), hasattr(OID, "__dict__")))
-
     def test_pairs_compare_as_tuples_do(self):
         for other in (str(OID), OCTETS, OID.arcs, None):
             self.assertEqual((False, True, {OID}), (OID == other, OID != other, {OID} - {other}))
@@ -367,10 +349,10 @@ class Identifiers(unittest.TestCase):
             left = (draw.randint(0, 2), draw.randint(0, 39), *arcs)
             cut = left[: draw.randint(2, len(left))]
             right = draw.choice([left, cut, (*cut, draw.getrandbits(32)), (left[0], 3, *left[2:]), (*left, 0)])
-            a, b = from_arcs(left), from_arcs(right)
+            a, b = (draw.choice([ObjectIdentifier, Under]).from_arcs(arcs) for arcs in (left, right))
             wanted = [left == right, left[: len(right)] == right, *(call(left, right) for call in COMPARISONS)]
-            found = [hash(a) == hash(b), draw.choice([a, Under(a)]).starts_with(draw.choice([b, Under(b)]))]
-            self.assertEqual(wanted, [*found, *(call(a, b) for call in COMPARISONS)], (left, right))
+            found = [hash(a) == hash(b), a.starts_with(b), *(call(a, b) for call in COMPARISONS)]
+            self.assertEqual(wanted, found, (left, right))
 
     def test_an_identifier_is_a_sequence(self):
         kinds = isinstance(OID, collections.abc.Sequence), isinstance(TABLE, collections.abc.MutableMapping)
@@ -383,7 +365,7 @@ class Identifiers(unittest.TestCase):
         item = ctypes.pythonapi.PySequence_GetItem
         item.argtypes, item.restype = (ctypes.py_object, ctypes.c_ssize_t), ctypes.py_object
         bounds = (-(10**50), *range(-8, 9), 10**50)
-        calls = [(call, start) for call in (operator.getitem, item) for start in range(-13, 9)]
+        calls = [(operator.getitem, 10**50), *itertools.product((operator.getitem, item), range(-13, 9))]
         calls += [(tuple.index, 1, *given) for given in [*zip(bounds), *itertools.product(bounds, bounds)]]
         for call, *given in calls:
             own, error = ObjectIdentifier.index if call is tuple.index else call, error_of(call, OID.arcs, *given)
@@ -401,7 +383,7 @@ class Identifiers(unittest.TestCase):
     def test_format_is_that_of_the_text(self):
         self.assertEqual("   2.999|2.999*|2.9|2.999", "{0:>8}|{0:*<6}|{0:.3}|{0}".format(ObjectIdentifier("2.999")))
         said = type("Said", (ObjectIdentifier,), {"__str__": lambda oid: "said"})("2.999")
-        self.assertEqual("said, said|  said", f"{said}, {said!s}|{said:>6}")
+        self.assertEqual("said, said|  said|Said('2.999')", f"{said}, {said!s}|{said:>6}|{said!r}")
 
     def test_weak_references_end(self):
         oid, plain, seen = Under("2.999"), ObjectIdentifier("2.5"), []
