@@ -5,10 +5,11 @@ from typing import assert_type
 
 from const_oid import Code, ObjectIdentifier, OidError, SortedMap, __version__, names
 
+Entry = tuple[ObjectIdentifier, str]
+
 
 class Under(ObjectIdentifier):
-    def first(self) -> int:
-        return self[0]
+    pass
 
 
 def uses() -> None:
@@ -22,41 +23,31 @@ def uses() -> None:
     assert_type((Under.from_arcs([2, 999]), Under.from_arcs(oid), under.child(3)), tuple[Under, Under, Under])
     assert_type((under.parent, oid.arcs, oid[1:]), tuple[Under | None, tuple[int, ...], tuple[int, ...]])
     assert_type((oid.starts_with(under), 840 in oid, oid < under, oid == under), tuple[bool, bool, bool, bool])
-    assert_type((under.child(True).first(), oid[0], len(oid)), tuple[int, int, int])
-    assert_type((hash(oid), oid.index(2), oid.count(2)), tuple[int, int, int])
+    assert_type((oid[0], len(oid), hash(oid), oid.index(2), oid.count(2)), tuple[int, int, int, int, int])
     assert_type((str(oid), f"{oid:>9}", bytes(oid), oid.der, copy.copy(under)), tuple[str, str, bytes, bytes, Under])
     match oid:
         case ObjectIdentifier((first, *_)):
             assert_type(first, int)
     arcs: Sequence[int] = oid
     assert_type(iter(arcs), Iterator[int])
-    key: dict[ObjectIdentifier, str] = {oid: "name", under: "another"}
-    tables(key)
     error: ValueError = (wrong := OidError(Code.DIGIT_EXPECTED, 120))
     assert error.args == (4, 120)
     assert_type((wrong.code, wrong.detail, wrong.piece), tuple[Code, int, int | None])
     assert_type((wrong.given, __version__, repr(wrong)), tuple[object, str, str])
 
-
-def tables(key: dict[ObjectIdentifier, str]) -> None:
-    oid = ObjectIdentifier("2.5.4.3")
-    sorted_key = assert_type(SortedMap(key), SortedMap[str])
-    below = {Under(oid): "name"}
+    key: dict[ObjectIdentifier, str] = {oid: "name", under: "another"}
+    table, below = assert_type(SortedMap(key), SortedMap[str]), {under.child(True): "name"}
     assert_type((SortedMap([(oid, 1)]), SortedMap(below)), tuple[SortedMap[int], SortedMap[str]])
-    sorted_key.update(below)
-    assert_type((sorted_key | below, sorted_key.copy()), tuple[SortedMap[str], SortedMap[str]])
-    sorted_key |= [(oid, "name")]
-    found = (sorted_key.nearest(oid), sorted_key.next_after(oid))
-    assert_type(found, tuple[tuple[ObjectIdentifier, str] | None, tuple[ObjectIdentifier, str] | None])
-    assert_type(sorted_key.subtree(oid), list[tuple[ObjectIdentifier, str]])
-    assert_type(list(sorted_key), list[ObjectIdentifier])
-    assert_type((SortedMap.fromkeys([oid], 0), sorted_key.get(oid)), tuple[SortedMap[int], str | None])
-    assert_type([*reversed(sorted_key.values()), *reversed(sorted_key.values())], list[str])
-    assert_type([*reversed(sorted_key.items())], list[tuple[ObjectIdentifier, str]])
-    assert_type((names.name_of(oid), names.by_name("cn")), tuple[str | None, ObjectIdentifier | None])
-    assert_type((names.parse("cn"), names.display(oid)), tuple[ObjectIdentifier, str])
-    assert_type((names.names_of(oid), sorted_key.popitem()), tuple[tuple[str, ...], tuple[ObjectIdentifier, str]])
-    entries: Iterable[tuple[ObjectIdentifier, str]] = names.entries() + names.common_entries()
+    table.update(below)
+    assert_type((table | below, table.copy()), tuple[SortedMap[str], SortedMap[str]])
+    table |= [(oid, "name")]
+    assert_type((table.nearest(oid), table.next_after(oid), table.popitem()), tuple[Entry | None, Entry | None, Entry])
+    assert_type((table.subtree(oid), [*reversed(table.items())]), tuple[list[Entry], list[Entry]])
+    assert_type((list(table), [*reversed(table.values())]), tuple[list[ObjectIdentifier], list[str]])
+    assert_type((SortedMap.fromkeys([oid], 0), table.get(oid)), tuple[SortedMap[int], str | None])
+    assert_type((names.name_of(oid), names.names_of(oid), names.display(oid)), tuple[str | None, tuple[str, ...], str])
+    assert_type((names.parse("cn"), names.by_name("cn")), tuple[ObjectIdentifier, ObjectIdentifier | None])
+    entries: Iterable[Entry] = names.entries() + names.common_entries()
     assert_type(SortedMap(entries), SortedMap[str])
 
 
