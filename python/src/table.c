@@ -251,7 +251,8 @@ static void free_slot(Tree *tree, uint32_t hole) {
     tree->slots[hole] = FREE;
 }
 
-/* Makes slots for a number of entries, so that a third of them is free. */
+/* Makes slots for a number of entries, so that a third of them is free. It makes more only for more entries than there
+ * ever were, and so where no index is vacant. */
 static int reserve_slots(Tree *tree, uint32_t size) {
     uint32_t count = tree->slots ? tree->mask + 1 : 8;
     while (count - count / 3 < size) count *= 2;
@@ -262,9 +263,7 @@ static int reserve_slots(Tree *tree, uint32_t size) {
     PyMem_Free(tree->slots);
     tree->slots = slots;
     tree->mask = count - 1;
-    for (uint32_t index = 0; index < tree->used; index++) {
-        if (tree->entries[index].key) fill_slot(tree, index);
-    }
+    for (uint32_t index = 0; index < tree->used; index++) fill_slot(tree, index);
     return 0;
 }
 
