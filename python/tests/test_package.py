@@ -70,10 +70,11 @@ class Package(unittest.TestCase):
         def found(der):
             return [(place, getattr(oid, "code", str(oid))) for place, oid in variables["identifiers"](der)]
 
-        octets = "308200A6 06032A0304 A004 06022A80 0405 0603550403 04020603 80012A 03040006012A 0681012A 068180"
-        whole = bytes.fromhex(octets) + bytes(128)
-        wanted = [(4, "1.2.3.4"), (11, Code.BASE128), (17, "2.5.4.3"), (35, Code.NO_ELEMENT), (39, "0.0" + 127 * ".0")]
-        self.assertEqual(wanted, found(whole))
+        octets = "06032A0304 A004 06022A80 048105 0603550403 040506012A0603 80012A 03040006012A 0681012A"
+        whole = bytes.fromhex(octets) + b"\6\x7f" + bytes(127) + b"\6\x81\x80" + bytes(128)
+        whole = b"\x30\x82" + len(whole).to_bytes(2) + whole
+        wanted = [(4, "1.2.3.4"), (11, Code.BASE128), (18, "2.5.4.3"), (39, Code.NO_ELEMENT)]
+        self.assertEqual([*wanted, (43, "0" + 127 * ".0"), (172, "0" + 128 * ".0")], found(whole))
         others = bytes.fromhex("300206032A0304"), bytes.fromhex("1F1F1E") + bytes(30)
         for der in [*(whole[:end] for end in range(1, len(whole))), *others]:
             self.assertIsInstance(error_of(found, der), ValueError, der.hex())
