@@ -22,7 +22,7 @@ from unittest import mock
 TOP = pathlib.Path(__file__).resolve().parents[2]
 sys.path.append(str(TOP / "python"))
 backend = importlib.import_module("backend")
-STEM = f"const_oid-{backend.PROJECT['version']}"
+STEM = f"const_oid-{importlib.import_module('const_oid').__version__}"
 SOURCES = [*(TOP / "python/src/const_oid").glob("*.*"), *(TOP / "rust").glob("*names.tsv")]
 PACKAGE = {path.name for path in SOURCES} | {"_native.abi3.so"}
 INFORMATION = {"licenses/LICENSE-APACHE", "licenses/LICENSE-MIT", "METADATA", "RECORD", "WHEEL"}
@@ -50,6 +50,8 @@ REFUSED = {
         {"before": "import sysconfig; sysconfig.get_path = lambda name: '/missing'"},
     FIRST + r"a C compiler, \S+ \(Debian: gcc\); cargo and rustc, 1": {"settings": None, "PATH": "/missing"},
     FIRST + r"a C compiler, .*; pkg-config \(Debian: pkg-config\)$": {"PATH": "/missing"},
+    FIRST + r"a C compiler, no-cc \(Debian: gcc\)$": {"CC": "no-cc"},
+    FIRST + "cargo and rustc, 1.85 or later": {"settings": None, "RUSTC": "no-rustc"},
     FIRST + "the library const_oid_c, .* PKG_CONFIG_PATH": dict.fromkeys(("PKG_CONFIG_PATH", "PKG_CONFIG_LIBDIR"), "/"),
     "\nconst-oid: .* --no-such-option -shared .* ends with status 1$": {"CFLAGS": "--no-such-option"},
     " -o .* --no-such-option ends with status 1$": {"LDFLAGS": "--no-such-option"},
