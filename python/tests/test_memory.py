@@ -7,6 +7,7 @@ import pickle
 import sys
 import tracemalloc
 import unittest
+import weakref
 from unittest import mock
 
 import const_oid
@@ -36,6 +37,7 @@ def raised(call, *given):  # assertRaises ends Python 3.12 where there is no mem
 
 
 Asking = type("Asking", (list,), {"__del__": lambda asking: asking[0].arcs})
+Collecting = type("Collecting", (), {"__del__": lambda _: gc.collect()})
 Other = type("Other", (dict,), {"__getattr__": lambda other, name: Other(), "__call__": lambda other, *_, **__: other})
 
 
@@ -113,6 +115,7 @@ NEW, MANY = itertools.repeat(GIVEN).__next__, [(KEYS[7].child(arc), GIVEN) for a
 MAPS = test_tables.CALLS | {
     "readings": lambda table, *_: readings(table),
     "in a cycle": in_a_cycle,
+    "finalizer": lambda *_: SortedMap({OTHER: Collecting()}),
     "many": lambda table, *_: (table.update(MANY), [table.popitem() for _ in MANY]),
     "wrong keys": lambda table, *_: [raised(call, "2.5") for call in (table.get, table.pop, table.nearest)],
     "wrong entries": lambda table, *_: [raised(table.update, [(OTHER, 1), it]) for it in ((1, 2), (1,), 1)],
@@ -164,6 +167,14 @@ class Memory(unittest.TestCase):
             with self.subTest(name):
                 # The first rounds also fill caches of Python.
                 self.assertTrue(any(keeps_nothing(call) for _ in range(50)), "it keeps memory or a reference")
+
+    def test_a_class_ends_though_its_own_map_refers_to_it(self):
+        for base in (SortedMap, ObjectIdentifier):
+            kind = type("Kind", (base,), {})
+            kind.own, ended = kind.__new__(kind, "2.5"), weakref.ref(kind)
+            del kind
+            gc.collect()
+            self.assertIsNone(ended())
 
     @unittest.skipUnless(_testcapi, "Python's module for tests of its C API is not installed")
     def test_functions_raise_memory_error(self):

@@ -375,7 +375,10 @@ class Sorted(unittest.TestCase):
         keys = [Own(str(key)) for key in KEYS]
         others = type("Others", (), {"keys": lambda _: iter(keys), "__getitem__": lambda _, key: key.arcs})()
         table = SortedMap(zip(keys, range(8)))
-        made = [SortedMap(others), SortedMap.fromkeys(keys), SortedMap(table), SortedMap([*table.items()]), table | {}]
+        own.side_effect = lambda *_: 0
+        given = dict(table.items())
+        own.side_effect = AssertionError
+        made = [*map(SortedMap, (others, given, table, [*table.items()])), SortedMap.fromkeys(keys), table | {}]
         for one in (table, *made, {} | table, table.copy(), copy.copy(table), *copies_of(table)):
             self.assertEqual([*map(str, KEYS)], [*map(str, one)])
         self.assertTrue(table == SortedMap(zip(map(Own, map(str, KEYS)), range(8))) != SortedMap(others))
