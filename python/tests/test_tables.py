@@ -414,10 +414,11 @@ class Sorted(unittest.TestCase):
         for name, words in (named | dict.fromkeys(("get", "pop", "setdefault"), "key default")).items():
             table = SortedMap.fromkeys(KEYS[:2], 0)
             given = dict(zip(words.split(), (KEYS[:2] if name == "fromkeys" else KEYS[1], 0)))
-            self.assertEqual([*given], [*inspect.signature(getattr(table, name)).parameters])
-            self.assertIsInstance(error_of(lambda: getattr(table, name)(**given, other=1)), TypeError)
+            self.assertEqual([*given], [*inspect.signature(call := getattr(table, name)).parameters])
+            errors = error_of(lambda: call(**given, other=1)), error_of(call, *given.values(), 1)
+            self.assertEqual([TypeError] * 2, [*map(type, errors)])
             if name != "update":
-                self.assertEqual(getattr(table.copy(), name)(*given.values()), getattr(table, name)(**given))
+                self.assertEqual(getattr(table.copy(), name)(*given.values()), call(**given))
         self.assertEqual((["entries"], table), ([*inspect.signature(SortedMap).parameters], SortedMap(entries=table)))
 
     def test_keys_of_one_hash_are_apart(self):
