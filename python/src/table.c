@@ -24,7 +24,7 @@ typedef struct {
     PyObject *key; /* an identifier, or NULL where no entry is */
     union {
         PyObject *value;
-        size_t vacant; /* of no entry, an index: see add and exchange */
+        size_t vacant; /* of no entry, the number of another one: see add and exchange */
     };
     Code code;
 } Entry;
@@ -49,13 +49,14 @@ typedef struct {
     uint32_t count, room;
 } Order;
 
+/* The number of an entry is one more than its index, and 0 is none. */
 typedef struct {
     Entry *entries;
-    uint32_t *slots;            /* indices of entries by a hash of their keys: see slot_of */
+    uint32_t *slots;            /* numbers of entries by a hash of their keys: see slot_of */
     Order order;                /* the same indices by the keys themselves */
     uint32_t mask;              /* one less than how many slots there are, a power of two */
     uint32_t size, used, room;  /* how many entries are there, were there at a time, and have room */
-    uint32_t vacant;            /* one more than the index of the first that was there, or 0 */
+    uint32_t vacant;            /* the number of the first that was there */
     unsigned long long version; /* how often keys came or went */
 } Tree;
 
@@ -211,44 +212,40 @@ static int put_in_order(Run *run) {
 
 /* ---- The hash table: open addressing, with linear probing ---- */
 
-/* No entry has it as its slot: the low bits of a slot are an index, of which there are fewer. */
-#define FREE UINT32_MAX
-
-/* The slot of a key, or the free one where it would be. A key's slot is found from that of the low bits of its hash on,
- * before a free one. It has these bits of an index, and the others of the hash. */
+/* The slot of a key, or the free one, which is 0, where it would be. A key's slot is found from that of the low bits of
+ * its hash on, before a free one. It has these bits of a number, and the others of the hash. */
 static inline uint32_t slot_of(const Tree *tree, PyObject *key) {
     uint32_t mask = tree->mask, hash = hash_of(key), at = hash & mask;
-    for (; tree->slots[at] != FREE; at = (at + 1) & mask) {
-        uint32_t index = tree->slots[at] ^ (hash & ~mask);
-        if (index <= mask && is_same(tree->entries[index].key, key)) break;
+    for (; tree->slots[at]; at = (at + 1) & mask) {
+        uint32_t number = tree->slots[at] ^ (hash & ~mask);
+        if (number <= mask && is_same(tree->entries[number - 1].key, key)) break;
     }
     return at;
 }
 
 /* The entry of a key, or NULL. */
 static inline Entry *lookup(const Tree *tree, PyObject *key) {
-    if (!tree->size) return NULL;
-    uint32_t slot = tree->slots[slot_of(tree, key)];
-    return slot == FREE ? NULL : &tree->entries[slot & tree->mask];
+    uint32_t slot = tree->size ? tree->slots[slot_of(tree, key)] : 0;
+    return slot ? &tree->entries[(slot & tree->mask) - 1] : NULL;
 }
 
 /* Gives an entry, whose key has no slot, one. */
 static inline void fill_slot(Tree *tree, uint32_t index) {
     uint32_t hash = tree->entries[index].code.hash, at = hash & tree->mask;
-    while (tree->slots[at] != FREE) at = (at + 1) & tree->mask;
-    tree->slots[at] = (hash & ~tree->mask) | index;
+    while (tree->slots[at]) at = (at + 1) & tree->mask;
+    tree->slots[at] = (hash & ~tree->mask) | (index + 1);
 }
 
 /* Frees a slot. Each after it, up to a free one, whose key would not be found past that, takes its place in turn. */
 static void free_slot(Tree *tree, uint32_t hole) {
     uint32_t mask = tree->mask, slot;
-    for (uint32_t at = (hole + 1) & mask; (slot = tree->slots[at]) != FREE; at = (at + 1) & mask) {
-        uint32_t first = tree->entries[slot & mask].code.hash & mask;
+    for (uint32_t at = (hole + 1) & mask; (slot = tree->slots[at]); at = (at + 1) & mask) {
+        uint32_t first = tree->entries[(slot & mask) - 1].code.hash & mask;
         if (((at - first) & mask) < ((at - hole) & mask)) continue;
         tree->slots[hole] = slot;
         hole = at;
     }
-    tree->slots[hole] = FREE;
+    tree->slots[hole] = 0;
 }
 
 /* Makes slots for a number of entries, so that a third of them is free. It makes more only for more entries than there
@@ -257,9 +254,8 @@ static int reserve_slots(Tree *tree, uint32_t size) {
     uint32_t count = tree->slots ? tree->mask + 1 : 8;
     while (count - count / 3 < size) count *= 2;
     if (tree->slots && count == tree->mask + 1) return 0;
-    uint32_t *slots = PyMem_Malloc(count * sizeof *slots);
+    uint32_t *slots = PyMem_Calloc(count, sizeof *slots);
     if (!slots) return -1;
-    memset(slots, 0xFF, count * sizeof *slots);
     PyMem_Free(tree->slots);
     tree->slots = slots;
     tree->mask = count - 1;
@@ -336,11 +332,6 @@ static int step_back(const Tree *tree, Place *place) {
     return 1;
 }
 
-static void free_order(Order order) {
-    while (order.count) PyMem_Free(order.parts[--order.count].indices);
-    PyMem_Free(order.parts);
-}
-
 /* Puts an empty part among the others. */
 static int add_part(Order *order, uint32_t at) {
     if (order->count == order->room) {
@@ -376,10 +367,10 @@ static int make_room(Tree *tree, Place *place) {
 /* ---- Changes ---- */
 
 /* Puts an entry in, whose key is not there, where one was taken out, or else after all. Takes over its references and
- * returns the index, or FREE without memory. */
+ * returns the number, or 0 without memory. */
 static uint32_t add(Tree *tree, Entry entry) {
     Place place = place_of(tree, &entry);
-    if (reserve(tree, 1) || make_room(tree, &place)) return FREE;
+    if (reserve(tree, 1) || make_room(tree, &place)) return 0;
     Part *part = &tree->order.parts[place.part];
     uint32_t *at = &part->indices[place.index];
     memmove(at + 1, at, (part->count++ - place.index) * sizeof *at);
@@ -389,7 +380,7 @@ static uint32_t add(Tree *tree, Entry entry) {
     fill_slot(tree, index);
     tree->size++;
     tree->version++;
-    return index;
+    return index + 1;
 }
 
 /* Takes out the entry at a place, with its references, and its part if that has no other. The next one that is added
@@ -411,27 +402,28 @@ static Entry take(Tree *tree, Place place) {
     return entry;
 }
 
-/* Sets an entry. Gives back the value of before, or, if its key was not there, the index of what is now. */
+/* Sets an entry. Gives back the value of before, or, if its key was not there, the number of what is now. */
 static int exchange(Tree *tree, Entry *entry) {
     Entry *there = lookup(tree, entry->key);
     if (there) return swap_values(there, entry), 0;
-    uint32_t index = add(tree, *entry);
-    if (index == FREE) return -1;
-    *entry = (Entry){.vacant = index};
+    uint32_t number = add(tree, *entry);
+    if (!number) return -1;
+    *entry = (Entry){.vacant = number};
     return 0;
 }
 
 /* Undoes this, for which no memory is needed. */
 static void change_back(Tree *tree, Entry *entry) {
     if (entry->key) swap_values(lookup(tree, entry->key), entry);
-    else *entry = take(tree, place_of(tree, &tree->entries[entry->vacant]));
+    else *entry = take(tree, place_of(tree, &tree->entries[entry->vacant - 1]));
 }
 
 /* Gives up a tree that no table has any more. */
 static void drop_tree(Tree tree) {
     Run run = {.entries = tree.entries, .count = tree.used};
+    while (tree.order.count) PyMem_Free(tree.order.parts[--tree.order.count].indices);
+    PyMem_Free(tree.order.parts);
     PyMem_Free(tree.slots);
-    free_order(tree.order);
     drop(&run);
 }
 
@@ -522,7 +514,7 @@ static PyObject *table_subscript(PyObject *self, PyObject *key) {
 /* Puts an entry in, whose key is not there. */
 static int add_new(Tree *tree, PyObject *key, PyObject *value) {
     Entry entry = {Py_NewRef(key), {Py_NewRef(value)}, code_of(key)};
-    if (add(tree, entry) != FREE) return 0;
+    if (add(tree, entry)) return 0;
     Py_DecRef(value);
     Py_DecRef(key);
     return PyErr_NoMemory(), -1;
@@ -700,16 +692,19 @@ static PyObject *table_sizeof(PyObject *self, PyObject *Py_UNUSED(none)) {
 
 static PyObject *table_iter(PyObject *self);
 
+/* Appends an entry whose key may be of any type: that of the last one is no other. */
+static inline int append_key(PyObject *self, Run *run, PyObject *key, PyObject *value) {
+    int is_like_last = run->count && Py_TYPE(key) == Py_TYPE(run->entries[run->count - 1].key);
+    return is_like_last || is_key(self, key) ? append(run, key, value) : -1;
+}
+
 /* That of a pair, which is a tuple or another iterable. */
 static int collect_pair(PyObject *self, PyObject *item, Run *run) {
     static const char *wanted = "an entry must be a pair of a key and a value";
     int is_iterable = PyType_GetSlot(Py_TYPE(item), Py_tp_iter) || PySequence_Check(item);
     OWNED *pair = is_iterable ? PySequence_Tuple(item) : raise_wrong_type(self, wanted, item);
     Py_ssize_t size = pair ? PyTuple_Size(pair) : -1;
-    if (size == 2) {
-        PyObject *key = PyTuple_GetItem(pair, 0);
-        return is_key(self, key) ? append(run, key, PyTuple_GetItem(pair, 1)) : -1;
-    }
+    if (size == 2) return append_key(self, run, PyTuple_GetItem(pair, 0), PyTuple_GetItem(pair, 1));
     if (pair) PyErr_Format(PyExc_ValueError, "%s, not %zd items: %R", wanted, size, item);
     return -1;
 }
@@ -722,7 +717,7 @@ static int collect_items(PyObject *self, PyObject *items, PyObject *mapping, Run
         OWNED *item = PyIter_Next(walk), *value = item && mapping ? PyObject_GetItem(mapping, item) : NULL;
         if (!item) return PyErr_Occurred() ? -1 : 0;
         if (!mapping) error = collect_pair(self, item, run);
-        else error = !value || !is_key(self, item) || append(run, item, value);
+        else error = !value || append_key(self, run, item, value);
     }
     return -1;
 }
@@ -732,7 +727,7 @@ static int collect_dict(PyObject *self, PyObject *given, Run *run) {
     PyObject *key, *value;
     Py_ssize_t at = 0;
     int error = reserve_run(run, (size_t)PyDict_Size(given));
-    while (!error && PyDict_Next(given, &at, &key, &value)) error = !is_key(self, key) || append(run, key, value);
+    while (!error && PyDict_Next(given, &at, &key, &value)) error = append_key(self, run, key, value);
     return error ? -1 : 0;
 }
 

@@ -90,9 +90,7 @@ class SortedMap(Table[Value], MutableMapping[ObjectIdentifier, Value]):
     def __ror__(self, other: Mapping[Key, Value]) -> Self:
         if not isinstance(other, Mapping):
             return NotImplemented
-        entries = SortedMap(other)
-        entries.update(self)
-        return self.copy().__ior__(entries)
+        return self.copy().__ior__(SortedMap(other).__ior__(self))
 
     def __ior__(self, other: Entries[Key, Value]) -> Self:
         self.update(other)
