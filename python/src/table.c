@@ -39,8 +39,8 @@ typedef struct {
  * part read no other key. The last part needs no bound. */
 typedef struct {
     Code bound;
-    uint32_t *indices; /* with room for PART */
-    uint32_t count;
+    uint32_t *indices;
+    uint16_t count, room;
 } Part;
 
 /* Indices in the order of their keys, in parts that all have some. */
@@ -332,8 +332,18 @@ static int step_back(const Tree *tree, Place *place) {
     return 1;
 }
 
-/* Puts an empty part among the others. */
-static int add_part(Order *order, uint32_t at) {
+/* Gives a part room for more indices than some, in steps of 32 octets. */
+static int resize(Part *part, uint32_t count) {
+    uint32_t room = (count | 7) + 1, *indices = PyMem_Realloc(part->indices, room * sizeof *indices);
+    if (!indices) return -1;
+    part->indices = indices;
+    part->room = (uint16_t)room;
+    return 0;
+}
+
+/* Puts an empty part, with room for more indices than some, among the others. */
+static int add_part(Order *order, uint32_t at, uint32_t count) {
+    Part part = {0};
     if (order->count == order->room) {
         uint32_t room = order->room + order->room / 4 + 1;
         Part *parts = PyMem_Realloc(order->parts, room * sizeof *parts);
@@ -341,25 +351,26 @@ static int add_part(Order *order, uint32_t at) {
         order->parts = parts;
         order->room = room;
     }
-    uint32_t *indices = PyMem_Malloc(PART * sizeof *indices);
-    if (!indices) return -1;
-    memmove(&order->parts[at + 1], &order->parts[at], (order->count++ - at) * sizeof *order->parts);
-    order->parts[at] = (Part){.indices = indices};
+    if (resize(&part, count)) return -1;
+    memmove(&order->parts[at + 1], &order->parts[at], (order->count++ - at) * sizeof part);
+    order->parts[at] = part;
     return 0;
 }
 
 /* Makes room for an index at a place, in a full part by cutting it in two. Keys that come in order fill parts. */
 static int make_room(Tree *tree, Place *place) {
     Order *order = &tree->order;
-    if (!order->count) return add_part(order, 0);
-    if (order->parts[place->part].count < PART) return 0;
-    uint32_t kept = place->part == order->count - 1 && place->index == PART ? PART : PART / 2;
-    if (add_part(order, place->part + 1)) return -1;
-    Part *first = &order->parts[place->part], *second = first + 1;
-    *second = (Part){first->bound, second->indices, PART - kept};
-    memcpy(second->indices, &first->indices[kept], second->count * sizeof *second->indices);
-    first->count = kept;
+    if (!order->count) return add_part(order, 0, 0);
+    Part *first = &order->parts[place->part];
+    if (first->count < PART) return first->count < first->room ? 0 : resize(first, first->count);
+    uint32_t kept = place->part == order->count - 1 && place->index == PART ? PART : PART / 2, moved = PART - kept;
+    if (add_part(order, place->part + 1, moved)) return -1;
+    first = &order->parts[place->part];
+    memcpy(first[1].indices, &first->indices[kept], moved * sizeof *first->indices);
+    first[1] = (Part){first->bound, first[1].indices, (uint16_t)moved, first[1].room};
+    first->count = (uint16_t)kept;
     first->bound = last_entry(tree, place->part)->code;
+    if (moved) resize(first, kept); /* to less, or else it stays as it is */
     if (place->index >= kept) *place = (Place){place->part + 1, place->index - kept, 0};
     return 0;
 }
@@ -430,13 +441,11 @@ static void drop_tree(Tree tree) {
 /* Puts entries that are in order into parts. */
 static int fill_parts(Tree *tree) {
     for (uint32_t index = 0; index < tree->size;) {
-        Place end = {tree->order.count - 1, PART, 0};
-        if (make_room(tree, &end)) return -1;
+        uint32_t left = tree->size - index, count = left < PART ? left : PART;
+        if (add_part(&tree->order, tree->order.count, count - 1)) return -1;
         Part *part = &tree->order.parts[tree->order.count - 1];
-        uint32_t left = tree->size - index, *indices = part->indices, count = left < PART ? left : PART;
-        for (uint32_t at = 0; at < count; at++) indices[at] = index + at;
-        part->count = count;
-        index += count;
+        while (part->count < count) part->indices[part->count++] = index++;
+        part->bound = tree->entries[index - 1].code;
     }
     return 0;
 }
@@ -684,7 +693,8 @@ static PyObject *table_sizeof(PyObject *self, PyObject *Py_UNUSED(none)) {
     OWNED *own = PyObject_CallMethod((PyObject *)&PyBaseObject_Type, "__sizeof__", "O", self);
     size_t size = own ? PyLong_AsSize_t(own) : 0, slots = tree->slots ? (size_t)tree->mask + 1 : 0;
     size += tree->room * sizeof(Entry) + (size_t)tree->order.room * sizeof(Part);
-    size += (slots + (size_t)tree->order.count * PART) * sizeof(uint32_t);
+    for (uint32_t at = 0; at < tree->order.count; at++) slots += tree->order.parts[at].room;
+    size += slots * sizeof *tree->slots;
     return own ? PyLong_FromSize_t(size) : NULL;
 }
 
