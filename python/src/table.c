@@ -694,8 +694,7 @@ static PyObject *table_sizeof(PyObject *self, PyObject *Py_UNUSED(none)) {
     size_t size = own ? PyLong_AsSize_t(own) : 0, slots = tree->slots ? (size_t)tree->mask + 1 : 0;
     size += tree->room * sizeof(Entry) + (size_t)tree->order.room * sizeof(Part);
     for (uint32_t at = 0; at < tree->order.count; at++) slots += tree->order.parts[at].room;
-    size += slots * sizeof *tree->slots;
-    return own ? PyLong_FromSize_t(size) : NULL;
+    return own ? PyLong_FromSize_t(size + slots * sizeof *tree->slots) : NULL;
 }
 
 /* ---- Entries of others ---- */
@@ -726,8 +725,7 @@ static int collect_items(PyObject *self, PyObject *items, PyObject *mapping, Run
     while (!error) {
         OWNED *item = PyIter_Next(walk), *value = item && mapping ? PyObject_GetItem(mapping, item) : NULL;
         if (!item) return PyErr_Occurred() ? -1 : 0;
-        if (!mapping) error = collect_pair(self, item, run);
-        else error = !value || append_key(self, run, item, value);
+        error = mapping ? !value || append_key(self, run, item, value) : collect_pair(self, item, run);
     }
     return -1;
 }

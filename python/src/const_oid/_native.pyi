@@ -6,6 +6,7 @@ from typing_extensions import disjoint_base  # type: ignore[attr-defined] # unkn
 Key = TypeVar("Key", bound=ObjectIdentifier)
 Value = TypeVar("Value")
 Other = TypeVar("Other")
+Entries = Mapping[Key, Value] | Iterable[tuple[ObjectIdentifier, Value]]
 
 __version__: str
 
@@ -66,10 +67,8 @@ class ObjectIdentifier(Sequence[int]):
 
 @disjoint_base
 class Table(MutableMapping[ObjectIdentifier, Value]):
-    def __init__(self, entries: Mapping[Key, Value] | Iterable[tuple[ObjectIdentifier, Value]] = ()) -> None: ...
-    def update(  # type: ignore[override]
-        self, entries: Mapping[Key, Value] | Iterable[tuple[ObjectIdentifier, Value]] = (), /
-    ) -> None: ...
+    def __init__(self, entries: Entries[Key, Value] = ()) -> None: ...
+    def update(self, entries: Entries[Key, Value] = (), /) -> None: ...  # type: ignore[override]
     @overload
     def get(self, key: ObjectIdentifier, default: None = None) -> Value | None: ...
     @overload
