@@ -444,7 +444,8 @@ static int fill_parts(Tree *tree) {
         uint32_t left = tree->size - index, count = left < PART ? left : PART;
         if (add_part(&tree->order, tree->order.count, count - 1)) return -1;
         Part *part = &tree->order.parts[tree->order.count - 1];
-        while (part->count < count) part->indices[part->count++] = index++;
+        for (uint32_t at = 0; at < count; at++) part->indices[at] = index++;
+        part->count = (uint16_t)count;
         part->bound = tree->entries[index - 1].code;
     }
     return 0;
@@ -561,8 +562,7 @@ static int read_named(PyObject *const *given, Py_ssize_t count, PyObject *names,
     PyObject *values[2] = {NULL, NULL}; \
     if (names || (size_t)count - 1 >= most) { \
         if (!read_named(given, count, names, format, wanted, values)) return NULL; \
-        given = values; \
-        count = most; \
+        given = values, count = most; \
     } \
     PyObject *key = given[0]; \
     Tree *tree = &((Table *)self)->tree; \
