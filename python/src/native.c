@@ -324,16 +324,11 @@ static PyObject *identifier_bytes(PyObject *self, PyObject *Py_UNUSED(none)) {
 
 static Py_hash_t identifier_hash(PyObject *self) { return PyObject_Hash(((Identifier *)self)->octets); }
 
-/* Equal identifiers have equal octets. */
 static PyObject *identifier_compare(PyObject *self, PyObject *other, int operation) {
     if (Py_TYPE(self) != Py_TYPE(other) && !is_identifier(other)) return Py_NewRef(Py_NotImplemented);
-    const const_oid_octets *left = &((Identifier *)self)->items, *right = &((Identifier *)other)->items;
-    if (operation == Py_EQ || operation == Py_NE) {
-        int is_equal = left->len == right->len && !memcmp(left->octets, right->octets, left->len);
-        return PyBool_FromLong(is_equal == (operation == Py_EQ));
-    }
-    int order = const_oid_by_arcs(left, right), is_less = operation == Py_LT || operation == Py_LE;
-    int or_equal = operation == Py_LE || operation == Py_GE;
+    if (operation == Py_EQ || operation == Py_NE) return PyBool_FromLong(is_same(self, other) == (operation == Py_EQ));
+    int order = const_oid_by_arcs(&((Identifier *)self)->items, &((Identifier *)other)->items);
+    int is_less = operation == Py_LT || operation == Py_LE, or_equal = operation == Py_LE || operation == Py_GE;
     return PyBool_FromLong(order ? (order < 0) == is_less : or_equal);
 }
 

@@ -38,6 +38,12 @@ PyObject *identifier_from_text(PyObject *type, PyObject *text);
 
 static inline int is_identifier(PyObject *object) { return base_by(Py_TYPE(object), identifier_dealloc) != NULL; }
 
+/* Equal identifiers have equal octets. */
+static inline int is_same(PyObject *left, PyObject *right) {
+    const const_oid_octets *one = &((Identifier *)left)->items, *other = &((Identifier *)right)->items;
+    return left == right || (one->len == other->len && !memcmp(one->octets, other->octets, one->len));
+}
+
 PyObject *attribute(PyObject *object, const char *name);
 PyObject *raise_wrong_type(PyObject *self, const char *wanted, PyObject *given);
 

@@ -79,36 +79,46 @@ static inline int is_key(PyObject *self, PyObject *key) {
 
 static const const_oid_octets *items_of(PyObject *key) { return &((Identifier *)key)->items; }
 
-static int is_same(PyObject *left, PyObject *right) {
-    const const_oid_octets *one = items_of(left), *other = items_of(right);
-    return left == right || (one->len == other->len && !memcmp(one->octets, other->octets, one->len));
-}
-
 static void swap_values(Entry *left, Entry *right) {
     PyObject *value = left->value;
     left->value = right->value;
     right->value = value;
 }
 
-/* Eight octets, in a number of their order. */
-static inline uint64_t word_of(const uint8_t *octets) {
-    uint64_t word;
-    memcpy(&word, octets, sizeof word);
+/* Eight octets, in a number of their order, or back. */
+static inline uint64_t in_order(uint64_t word) {
     return __BYTE_ORDER__ == __ORDER_LITTLE_ENDIAN__ ? __builtin_bswap64(word) : word;
 }
 
+static inline uint64_t word_of(const uint8_t *octets) {
+    uint64_t word;
+    memcpy(&word, octets, sizeof word);
+    return in_order(word);
+}
+
 /* A subidentifier of several octets comes after their number, which is above all single ones. If the codes of two keys
- * differ, the keys are in their order. The single octets that a key begins with are found by one look. */
+ * differ, the keys are in their order. The single octets that a key begins with are found by one look at eight, and so
+ * are the next ones, if they are several, of which all but the last have the high bit. */
 static Code encode(const const_oid_octets *items) {
-    uint8_t room[16 + 5] = {0}, *number = NULL;
-    size_t at = 0;
+    uint8_t room[16 + 5] = {0}, *out = room, *number = NULL;
+    const uint8_t *octets = items->octets, *end = octets + items->len;
     if (items->len >= 8) {
-        uint64_t others = word_of(items->octets) & UINT64_C(0x8080808080808080);
-        at = others ? (size_t)__builtin_clzll(others) / 8 : 8;
-        memcpy(room, items->octets, 8); /* what is not single is overwritten */
+        const uint64_t high_bits = UINT64_C(0x8080808080808080);
+        uint64_t word = word_of(octets), several = word & high_bits;
+        size_t count = several ? (size_t)__builtin_clzll(several) / 8 : 8;
+        memcpy(out, octets, 8); /* what is not single is overwritten */
+        octets += count, out += count;
+        uint64_t last = (several ^ high_bits) << 4 * count << 4 * count;
+        if (last) {
+            word = in_order(word << 8 * count);
+            memcpy(out + 1, &word, 8);
+            count = (size_t)__builtin_clzll(last) / 8 + 1;
+            *out = (uint8_t)(128 + count);
+            octets += count, out += count + 1;
+        }
     }
-    for (uint8_t *out = &room[at]; at < items->len && (number || out < &room[12]); at++) {
-        uint8_t octet = items->octets[at];
+    while (octets < end && (number || out < &room[12])) {
+        uint8_t octet = *octets++;
         if (!number && octet > 127) *(number = out++) = 128;
         if (number) ++*number;
         *out++ = octet;
@@ -132,15 +142,10 @@ static inline int compare_entries(const Entry *left, const Entry *right) {
     return compare(left, items_of(right->key), right->code);
 }
 
-/* Python keeps the hash of bytes, which has its seed. */
-static uint32_t hash_of(PyObject *key) { return (uint32_t)PyObject_Hash(((Identifier *)key)->octets); }
+/* The hash of bytes, which they keep, and which has the seed of Python. */
+static hashfunc hash_bytes;
 
-/* The code of an entry, with the hash. */
-static inline Code code_of(PyObject *key) {
-    Code code = encode(items_of(key));
-    code.hash = hash_of(key);
-    return code;
-}
+static uint32_t hash_of(PyObject *key) { return (uint32_t)hash_bytes(((Identifier *)key)->octets); }
 
 /* Makes room for more entries, or raises MemoryError. */
 static int reserve_run(Run *run, size_t more) {
@@ -152,8 +157,10 @@ static int reserve_run(Run *run, size_t more) {
     return 0;
 }
 
-/* Appends an entry, whose code comes later. */
-static inline int append(Run *run, PyObject *key, PyObject *value) {
+/* Appends an entry without its code. For a table, the key may be of any type: that of the last one is no other. */
+static inline int append(PyObject *self, Run *run, PyObject *key, PyObject *value) {
+    int is_like_last = run->count && Py_TYPE(key) == Py_TYPE(run->entries[run->count - 1].key);
+    if (self && !is_like_last && !is_key(self, key)) return -1;
     if (run->count == run->room && reserve_run(run, 4)) return -1;
     Entry *entry = &run->entries[run->count++];
     entry->key = Py_NewRef(key);
@@ -174,13 +181,15 @@ static void drop(Run *run) {
 
 /* Gives entries their codes. Whether each key comes after the one before it. */
 static int encode_all(Run *run) {
-    Entry *entries = run->entries;
     int is_in_order = 1;
-    for (size_t index = 0; index < run->count; index++) {
-        if (index + 2 * AHEAD < run->count) __builtin_prefetch(entries[index + 2 * AHEAD].key);
-        if (index + AHEAD < run->count) __builtin_prefetch(items_of(entries[index + AHEAD].key)->octets);
-        entries[index].code = code_of(entries[index].key);
-        if (index) is_in_order &= compare_entries(&entries[index - 1], &entries[index]) < 0;
+    for (Entry *entry = run->entries, *end = entry + run->count; entry < end; entry++) {
+        if (end - entry > 2 * AHEAD) {
+            __builtin_prefetch(entry[2 * AHEAD].key);
+            __builtin_prefetch(items_of(entry[AHEAD].key)->octets);
+        }
+        entry->code = encode(items_of(entry->key));
+        entry->code.hash = hash_of(entry->key);
+        if (entry > run->entries) is_in_order &= compare_entries(entry - 1, entry) < 0;
     }
     return is_in_order;
 }
@@ -230,10 +239,10 @@ static inline Entry *lookup(const Tree *tree, PyObject *key) {
 }
 
 /* Gives an entry, whose key has no slot, one. */
-static inline void fill_slot(Tree *tree, uint32_t index) {
-    uint32_t hash = tree->entries[index].code.hash, at = hash & tree->mask;
-    while (tree->slots[at]) at = (at + 1) & tree->mask;
-    tree->slots[at] = (hash & ~tree->mask) | (index + 1);
+static inline void fill_slot(uint32_t *slots, uint32_t mask, const Entry *entries, uint32_t index) {
+    uint32_t hash = entries[index].code.hash, at = hash & mask;
+    while (slots[at]) at = (at + 1) & mask;
+    slots[at] = (hash & ~mask) | (index + 1);
 }
 
 /* Frees a slot. Each after it, up to a free one, whose key would not be found past that, takes its place in turn. */
@@ -254,12 +263,12 @@ static int reserve_slots(Tree *tree, uint32_t size) {
     uint32_t count = tree->slots ? tree->mask + 1 : 8;
     while (count - count / 3 < size) count *= 2;
     if (tree->slots && count == tree->mask + 1) return 0;
-    uint32_t *slots = PyMem_Calloc(count, sizeof *slots);
+    uint32_t mask = count - 1, used = tree->used, *slots = PyMem_Calloc(count, sizeof *slots);
     if (!slots) return -1;
     PyMem_Free(tree->slots);
     tree->slots = slots;
-    tree->mask = count - 1;
-    for (uint32_t index = 0; index < tree->used; index++) fill_slot(tree, index);
+    tree->mask = mask;
+    for (uint32_t index = 0; index < used; index++) fill_slot(slots, mask, tree->entries, index);
     return 0;
 }
 
@@ -324,15 +333,13 @@ static Place find(const Tree *tree, const const_oid_octets *items, Code code) {
 
 static Place place_of(const Tree *tree, const Entry *entry) { return find(tree, items_of(entry->key), entry->code); }
 
-/* Moves a place back. Whether there is an entry. */
-static int step_back(const Tree *tree, Place *place) {
-    if (!place->part && !place->index) return 0;
-    if (!place->index) place->index = tree->order.parts[--place->part].count;
-    place->index--;
-    return 1;
+/* The entry at a place that some items have, or else the one before it. NULL before all. */
+static const Entry *entry_up_to(const Tree *tree, Place place) {
+    if (!place.is_there && !place.index) return place.part ? last_entry(tree, place.part - 1) : NULL;
+    return &tree->entries[tree->order.parts[place.part].indices[place.index - !place.is_there]];
 }
 
-/* Gives a part room for more indices than some, in steps of 32 octets. */
+/* Gives a part room for at least one index more than a count: for a multiple of eight, which is 32 octets. */
 static int resize(Part *part, uint32_t count) {
     uint32_t room = (count | 7) + 1, *indices = PyMem_Realloc(part->indices, room * sizeof *indices);
     if (!indices) return -1;
@@ -341,7 +348,7 @@ static int resize(Part *part, uint32_t count) {
     return 0;
 }
 
-/* Puts an empty part, with room for more indices than some, among the others. */
+/* Puts an empty part, with such room, among the others. */
 static int add_part(Order *order, uint32_t at, uint32_t count) {
     Part part = {0};
     if (order->count == order->room) {
@@ -388,7 +395,7 @@ static uint32_t add(Tree *tree, Entry entry) {
     uint32_t index = *at = tree->vacant ? tree->vacant - 1 : tree->used++;
     if (tree->vacant) tree->vacant = (uint32_t)tree->entries[index].vacant;
     tree->entries[index] = entry;
-    fill_slot(tree, index);
+    fill_slot(tree->slots, tree->mask, tree->entries, index);
     tree->size++;
     tree->version++;
     return index + 1;
@@ -523,7 +530,8 @@ static PyObject *table_subscript(PyObject *self, PyObject *key) {
 
 /* Puts an entry in, whose key is not there. */
 static int add_new(Tree *tree, PyObject *key, PyObject *value) {
-    Entry entry = {Py_NewRef(key), {Py_NewRef(value)}, code_of(key)};
+    Entry entry = {Py_NewRef(key), {Py_NewRef(value)}, encode(items_of(key))};
+    entry.code.hash = hash_of(key);
     if (add(tree, entry)) return 0;
     Py_DecRef(value);
     Py_DecRef(key);
@@ -628,9 +636,8 @@ static PyObject *table_clear(PyObject *self, PyObject *Py_UNUSED(none)) {
 WITH_KEY(table_nearest) {
     READ("O:nearest", 1, "oid");
     for (const_oid_octets above = *items_of(key); above.len;) {
-        Place place = find(tree, &above, encode(&above));
-        if (!place.is_there && !step_back(tree, &place)) break;
-        const Entry *entry = next_entry(tree, &place);
+        const Entry *entry = entry_up_to(tree, find(tree, &above, encode(&above)));
+        if (!entry) break;
         const const_oid_octets *last = items_of(entry->key);
         size_t common = 0;
         while (common < above.len && common < last->len && above.octets[common] == last->octets[common]) common++;
@@ -654,7 +661,7 @@ static int append_all(const Tree *tree, Place place, const const_oid_octets *sta
     for (const Entry *entry; !error && (entry = next_entry(tree, &place));) {
         const const_oid_octets *items = items_of(entry->key);
         if (start && (start->len > items->len || memcmp(start->octets, items->octets, start->len))) break;
-        error = append(run, entry->key, entry->value);
+        error = append(NULL, run, entry->key, entry->value);
     }
     return error;
 }
@@ -701,19 +708,13 @@ static PyObject *table_sizeof(PyObject *self, PyObject *Py_UNUSED(none)) {
 
 static PyObject *table_iter(PyObject *self);
 
-/* Appends an entry whose key may be of any type: that of the last one is no other. */
-static inline int append_key(PyObject *self, Run *run, PyObject *key, PyObject *value) {
-    int is_like_last = run->count && Py_TYPE(key) == Py_TYPE(run->entries[run->count - 1].key);
-    return is_like_last || is_key(self, key) ? append(run, key, value) : -1;
-}
-
-/* That of a pair, which is a tuple or another iterable. */
+/* Appends the entry of a pair, which is a tuple or another iterable. */
 static int collect_pair(PyObject *self, PyObject *item, Run *run) {
     static const char *wanted = "an entry must be a pair of a key and a value";
     int is_iterable = PyType_GetSlot(Py_TYPE(item), Py_tp_iter) || PySequence_Check(item);
     OWNED *pair = is_iterable ? PySequence_Tuple(item) : raise_wrong_type(self, wanted, item);
     Py_ssize_t size = pair ? PyTuple_Size(pair) : -1;
-    if (size == 2) return append_key(self, run, PyTuple_GetItem(pair, 0), PyTuple_GetItem(pair, 1));
+    if (size == 2) return append(self, run, PyTuple_GetItem(pair, 0), PyTuple_GetItem(pair, 1));
     if (pair) PyErr_Format(PyExc_ValueError, "%s, not %zd items: %R", wanted, size, item);
     return -1;
 }
@@ -725,7 +726,7 @@ static int collect_items(PyObject *self, PyObject *items, PyObject *mapping, Run
     while (!error) {
         OWNED *item = PyIter_Next(walk), *value = item && mapping ? PyObject_GetItem(mapping, item) : NULL;
         if (!item) return PyErr_Occurred() ? -1 : 0;
-        error = mapping ? !value || append_key(self, run, item, value) : collect_pair(self, item, run);
+        error = mapping ? !value || append(self, run, item, value) : collect_pair(self, item, run);
     }
     return -1;
 }
@@ -735,7 +736,7 @@ static int collect_dict(PyObject *self, PyObject *given, Run *run) {
     PyObject *key, *value;
     Py_ssize_t at = 0;
     int error = reserve_run(run, (size_t)PyDict_Size(given));
-    while (!error && PyDict_Next(given, &at, &key, &value)) error = append_key(self, run, key, value);
+    while (!error && PyDict_Next(given, &at, &key, &value)) error = append(self, run, key, value);
     return error ? -1 : 0;
 }
 
@@ -947,6 +948,7 @@ static PyType_Spec table_spec = {
 };
 
 int add_tables(PyObject *module) {
+    hash_bytes = (hashfunc)PyType_GetSlot(&PyBytes_Type, Py_tp_hash);
     OWNED *table = PyType_FromModuleAndSpec(module, &table_spec, NULL);
     OWNED *walk = PyType_FromModuleAndSpec(module, &walk_spec, NULL);
     OWNED *attributes = table ? PyObject_GenericGetDict(table, NULL) : NULL;
