@@ -103,6 +103,7 @@ CALLS["names"] = lambda: [call(_native.parse(text)) for call in OF_OID for text 
 CALLS["by name"] = lambda: [call(text) for call, text in zip(2 * OF_TEXT, ("SHA256", "sysUpTime", "\ud800", "2.5"))]
 CALLS["wrong types"] = lambda: [raised(call, 1) for call in OF_OID + OF_TEXT]
 
+
 def in_a_cycle(table, *_):
     """Makes garbage of a map, a subclass of it, its iterators and views, and a key that refers to it."""
     key = Under("2.5")

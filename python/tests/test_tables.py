@@ -434,10 +434,10 @@ class Sorted(unittest.TestCase):
 class Costs(unittest.TestCase):
     def test_its_size_is_that_of_its_memory(self):
         keys = [ObjectIdentifier(f"2.{arc}") for arc in range(3000)]
-        orders = keys, keys[::-1], random.Random(SEED).sample(keys, 3000)
+        orders = (51.5, keys), (53, keys[::-1]), (52, random.Random(SEED).sample(keys, 3000))  # the most octets a key
         tracemalloc.start()
         self.addCleanup(tracemalloc.stop)
-        for order, left, at_once in itertools.product(orders, (3000, 300, 0), (0, 3000)):
+        for (most, order), left, at_once in itertools.product(orders, (3000, 300, 0), (0, 3000)):
             before, table = tracemalloc.get_traced_memory()[0], SortedMap()
             table.update((key, None) for key in order[:at_once])
             for key in order[at_once:]:
@@ -446,7 +446,7 @@ class Costs(unittest.TestCase):
                 del table[key]
             size = tracemalloc.get_traced_memory()[0] - before
             self.assertAlmostEqual(size, sys.getsizeof(table), delta=200)
-            self.assertEqual((sorted(order[:left]), True), ([*table], size < 3000 * 64))
+            self.assertEqual((sorted(order[:left]), True), ([*table], size < 3000 * most))
             del table
 
     def test_a_long_identifier_is_found_in_linear_time(self):

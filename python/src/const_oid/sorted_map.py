@@ -83,14 +83,10 @@ class SortedMap(Table[Value], MutableMapping[ObjectIdentifier, Value]):
         return ours[1::2] == others[1::2] and all(map(ObjectIdentifier.__eq__, ours[::2], others[::2]))
 
     def __or__(self, other: Mapping[Key, Value]) -> Self:
-        if not isinstance(other, Mapping):
-            return NotImplemented
-        return self.copy().__ior__(other)
+        return self.copy().__ior__(other) if isinstance(other, Mapping) else NotImplemented
 
     def __ror__(self, other: Mapping[Key, Value]) -> Self:
-        if not isinstance(other, Mapping):
-            return NotImplemented
-        return self.copy().__ior__(SortedMap(other).__ior__(self))
+        return self.copy().__ior__(SortedMap(other).__ior__(self)) if isinstance(other, Mapping) else NotImplemented
 
     def __ior__(self, other: Entries[Key, Value]) -> Self:
         self.update(other)
