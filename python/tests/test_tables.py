@@ -207,7 +207,7 @@ def outcome(calls, key=KEYS.__getitem__, new=int, garbage_at=0, kind=SortedMap):
         if left:
             number, call = left.pop(0)
             if kind is not Model and not garbage_at:
-                assert all(plain(reading) == plain(table) for reading in readings(table)), "the map is not whole"
+                assert [plain(table)] * 7 == [*map(plain, readings(table))], "the map is not whole"
             found[number] = result_of(call, table, key, lambda: new(number))
 
     STEP[0] = step
