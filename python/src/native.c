@@ -32,7 +32,7 @@ PyObject *attribute(PyObject *object, const char *name) {
     return interned ? PyObject_GetAttr(object, interned) : NULL;
 }
 
-/* What a function of const_oid._support returns, which the module of a class, or of an object's, holds: an import
+/* What a function of the package returns, which the module of a class, or of an object's, holds: an import
  * would take the caller's __import__. It steals the arguments, a tuple. */
 static PyObject *call_support(PyObject *self, const char *name, PyObject *arguments) {
     PyTypeObject *type = base_of(PyType_Check(self) ? (PyTypeObject *)self : Py_TYPE(self));
@@ -55,7 +55,7 @@ static PyObject *raise_status(PyObject *self, const_oid_status status, PyObject 
 }
 
 PyObject *raise_wrong_type(PyObject *self, const char *wanted, PyObject *given) {
-    return raise_by_support(self, "wrong_type", Py_BuildValue("sO", wanted, given));
+    return raise_by_support(self, "_wrong_type", Py_BuildValue("sO", wanted, given));
 }
 
 /* A new object of a type, with valid octets, to which it steals a reference. */
@@ -375,7 +375,7 @@ static PyObject *identifier_index(PyObject *self, PyObject *arguments) {
         int is_equal = PyObject_RichCompareBool(PyTuple_GetItem(arcs, index), arc, Py_EQ);
         if (is_equal) return is_equal < 0 ? NULL : PyLong_FromSsize_t(index);
     }
-    return raise_by_support(self, "not_among", Py_BuildValue("(O)", arc));
+    return raise_by_support(self, "_not_among", Py_BuildValue("(O)", arc));
 }
 
 static PyObject *identifier_count(PyObject *self, PyObject *arc) {
@@ -386,13 +386,13 @@ static PyObject *identifier_count(PyObject *self, PyObject *arc) {
 
 /* A copy has no memo. */
 static PyObject *identifier_copied(PyObject *self, PyObject *memo) {
-    return call_support(self, "copied", memo ? Py_BuildValue("O(O)", self, memo) : Py_BuildValue("O()", self));
+    return call_support(self, "_copied", memo ? Py_BuildValue("O(O)", self, memo) : Py_BuildValue("O()", self));
 }
 
-/* Methods of the class by a function of const_oid._support of it and the arguments. */
+/* Methods of the class by a function of the package of it and the arguments. */
 #define BY_FUNCTION(name) \
     static PyObject *identifier_##name(PyObject *type, PyObject *arguments) { \
-        return call_support(type, #name, Py_BuildValue("OO", type, arguments)); \
+        return call_support(type, "_" #name, Py_BuildValue("OO", type, arguments)); \
     }
 BY_FUNCTION(pydantic_schema)
 BY_FUNCTION(pydantic_validators)
@@ -402,11 +402,11 @@ static PyObject *identifier_array(PyObject *self, PyObject *arguments, PyObject 
     static char *names[] = {"dtype", "copy", NULL};
     PyObject *dtype, *copy;
     if (!PyArg_ParseTupleAndKeywords(arguments, keywords, "|OO:__array__", names, &dtype, &copy)) return NULL;
-    return call_support(self, "as_array", Py_BuildValue("(O)", self));
+    return call_support(self, "_as_array", Py_BuildValue("(O)", self));
 }
 
 static PyObject *identifier_reduce(PyObject *self, PyObject *Py_UNUSED(none)) {
-    if (!is_plain(Py_TYPE(self))) return call_support(self, "reduced", Py_BuildValue("(O)", self));
+    if (!is_plain(Py_TYPE(self))) return call_support(self, "_reduced", Py_BuildValue("(O)", self));
     PyObject *restored = attribute(PyType_GetModule(Py_TYPE(self)), "restored");
     return Py_BuildValue("N(O)", restored, ((Identifier *)self)->octets);
 }

@@ -12,7 +12,7 @@ from unittest import mock
 
 import const_oid
 import test_tables
-from const_oid import Code, ObjectIdentifier, OidError, SortedMap, _native, _support
+from const_oid import Code, ObjectIdentifier, OidError, SortedMap, _native
 from test_tables import KEYS, _testcapi, readings, without_memory
 
 # Short and long octets, of arcs that differ and are no small integers: the last have ten digits.
@@ -132,7 +132,7 @@ CALLS |= {
 
 # What raises an exception in a function of Python, which may be lost where there is no memory.
 IN_PYTHON = ("copies of", "finalizer", "hooks", "pickles", "error", "wrong error")
-KEPT = [ObjectIdentifier, Under, OidError, UNDER, GIVEN, OTHER, bytes(OTHER), WRONG, str, tuple, const_oid, _support]
+KEPT = [ObjectIdentifier, Under, OidError, UNDER, GIVEN, OTHER, bytes(OTHER), WRONG, str, tuple, const_oid]
 KEPT += [SortedMap, type(iter(SortedMap())), _native.restored, *KEYS, *OCTETS.values()]
 KEPT += [ObjectIdentifier.__name__, Under.__name__, None, True, False, NotImplemented, b"*", b"", 1]
 HELD = 6000 * KEPT  # so that a reference given up too often frees none

@@ -205,7 +205,7 @@ class Identifiers(unittest.TestCase):
                 self.assertEqual({str(error)}, {str(other) for other in copies_of(error)})
             view.release()
             del source[:]
-            self.assertTrue(str(error).endswith(", given " + const_oid.shown(octets[:count])), error)
+            self.assertTrue(str(error).endswith(", given " + const_oid._shown(octets[:count])), error)
 
     def test_arcs_come_from_any_iterable(self):
         """Arcs are those of a list before it changes, and no other call comes between them."""
@@ -230,11 +230,11 @@ class Identifiers(unittest.TestCase):
         calls = {"kind('1.40')": OidError, "kind(1)": TypeError, "oid.__copy__()": type(None), "copy(oid)": type(None)}
         scope = {"__builtins__": {}, "kind": ObjectIdentifier, "oid": Named("2.999"), "copy": copy.deepcopy}
         with mock.patch.dict(sys.modules), mock.patch.dict(vars(const_oid)):
-            for missing in ([], ["_support"], ["_support", "_native", "sorted_map", "names"]):
+            for missing in ([], ["const_oid"], [name for name in sys.modules if name.startswith("const_oid")]):
                 for name in missing:
-                    del sys.modules[f"const_oid.{name}"]
+                    del sys.modules[name]
                 self.assertEqual(calls, {call: type(error_of(eval, call, {**scope})) for call in calls})
-                importlib.import_module("const_oid._support")
+                importlib.import_module("const_oid")
 
     def test_errors_say_what_is_wrong(self):
         for call, code, text, inputs in WRONG:

@@ -42,13 +42,19 @@ recursion limit with a RecursionError. An OCTET STRING with such contents is pas
 The library const_oid_c computes each result but equality and prefixes. Identifiers and functions are thread-safe.
 """
 
+import copy
+import copyreg
 import enum
+import importlib
 import re
+import reprlib
+import sys
+from collections.abc import Sequence
+from types import SimpleNamespace
 from typing import Any, cast
 
-from . import _native, _support, names
+from . import _native, names
 from ._native import ObjectIdentifier, __version__, error_text, wrong_component
-from ._support import shown
 from .sorted_map import SortedMap
 
 __all__ = ["Code", "ObjectIdentifier", "OidError", "SortedMap", "__version__", "names"]
@@ -136,10 +142,10 @@ class OidError(ValueError):
             text = text.replace(chr(self.detail), repr(character[0] if character else chr(self.detail))[1:-1])
             if re.match(r"\.[0-9]", given):
                 text += " (remove the first dot)"
-        return text if self.given is None else f"{text}, given {shown(self.given)}"
+        return text if self.given is None else f"{text}, given {_shown(self.given)}"
 
     def __repr__(self) -> str:
-        given = "" if self.given is None else f", {shown(self.given)}"
+        given = "" if self.given is None else f", {_shown(self.given)}"
         return f"{type(self).__name__}(Code.{self.code.name}, {self.detail}{given})"
 
 
@@ -154,6 +160,82 @@ def _fault_of_element(octets: bytes) -> str:
     return "octets come after the element"
 
 
-# The extension module holds the first ones, whatever happens to sys.modules. No lazy import outlives this use.
-vars(_support).setdefault("OidError", OidError)
-vars(_native).setdefault("support", _support)
+Sequence.register(ObjectIdentifier)
+
+_HINTS: dict[type, str] = {str: "ObjectIdentifier takes text", bytes: "from_bytes takes octets"}
+_HINTS.update((kind, "from_arcs takes arcs") for kind in (tuple, list))
+_HINTS.update((kind, "a set has no order") for kind in (set, frozenset))
+_OF_OCTETS = _HINTS | {str: "ObjectIdentifier takes dotted text, and bytes.fromhex hexadecimal text"}
+_OF_OCTETS.update((kind, "bytes takes octets as numbers") for kind in (tuple, list))
+# By an attribute that identifiers of cryptography, asn1crypto or pyasn1 have.
+_OF_OTHERS = {"dotted_string": "its .dotted_string", "dotted": "its .dotted", "isPrefixOf": "its str()"}
+
+# Shows a value as repr does, but cut if it is long. An int of more digits than Python prints is no error.
+_SHOWN = reprlib.Repr()
+setattr(_SHOWN, "repr_int", _SHOWN.repr_instance)
+_SHOWN.maxstring, _SHOWN.maxother, _SHOWN.maxtuple = 60, 60, 12
+_shown = _SHOWN.repr
+
+
+def _wrong_type(wanted: str, given: object) -> TypeError:
+    """The error for a value of another type, which says what makes an identifier of it, if that is known."""
+    kind = type(given)
+    name = kind.__qualname__ if kind.__module__ == "builtins" else f"{kind.__module__}.{kind.__qualname__}"
+    hints = [f"ObjectIdentifier takes {text}" for field, text in _OF_OTHERS.items() if hasattr(kind, field)]
+    hint = next(iter(hints), (_OF_OCTETS if wanted.startswith("octets") else _HINTS).get(kind))
+    return TypeError(f"{wanted}, not {name}" + (f" ({hint})" if hint else ""))
+
+
+def _not_among(arc: object) -> ValueError:
+    """The error of an index."""
+    return ValueError(f"{_shown(arc)} is not among the arcs")
+
+
+def _copied(oid: ObjectIdentifier, memos: tuple[dict[int, object], ...]) -> object:
+    """An identifier; if of a subclass, a copy by the protocol of pickle, and a deep one if there is a memo."""
+    reductor = copyreg.dispatch_table.get(type(oid))
+    parts: Any = oid if type(oid) is ObjectIdentifier else reductor(oid) if reductor else oid.__reduce_ex__(4)
+    if not isinstance(parts, tuple):
+        return oid
+
+    def made(*given: object) -> object:
+        result = parts[0](*given)
+        for memo in memos:  # where attributes refer to the identifier
+            memo[id(oid)] = result
+        return result
+
+    # The module copy would call __copy__ of the identifier again.
+    source: Any = SimpleNamespace(__reduce_ex__=lambda _: (made, *parts[1:]))
+    return copy.deepcopy(source, *memos) if memos else copy.copy(source)
+
+
+def _reduced(oid: ObjectIdentifier) -> tuple[object, ...]:
+    """For pickles of a subclass, which is called again, and gets its attributes."""
+    return type(oid), (ObjectIdentifier(oid),), oid.__getstate__()
+
+
+def _as_array(oid: ObjectIdentifier) -> Any:
+    """An array of numpy, without dimensions, of this object."""
+    array: Any = importlib.import_module("numpy").empty((), "O")
+    array[()] = oid
+    return array
+
+
+def _pydantic_schema(kind: type[ObjectIdentifier], _: object) -> Any:
+    """For a field of pydantic 2: text and identifiers are taken, and text is given in JSON."""
+    schemas: Any = importlib.import_module("pydantic_core").core_schema
+    text = schemas.str_schema(strict=True)
+    either = schemas.union_schema([schemas.is_instance_schema(ObjectIdentifier), text])
+    taken, given = schemas.json_or_python_schema(text, either), schemas.to_string_ser_schema()
+    return schemas.no_info_after_validator_function(kind, taken, serialization=given)
+
+
+def _pydantic_validators(kind: type[ObjectIdentifier], _: object) -> list[type[ObjectIdentifier]]:
+    """The same for pydantic 1, which looks in a table of its own for what gives text."""
+    for name in ("pydantic.json", "pydantic.v1.json"):
+        getattr(sys.modules.get(name), "ENCODERS_BY_TYPE", {})[ObjectIdentifier] = str
+    return [kind]
+
+
+# The extension module calls the first package, whatever happens to sys.modules. No lazy import outlives this use.
+vars(_native).setdefault("support", sys.modules[__name__])

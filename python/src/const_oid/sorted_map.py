@@ -1,16 +1,15 @@
 """A mapping that is sorted by arcs."""
 
 import copy
-from collections.abc import ItemsView, Iterable, Iterator, KeysView, Mapping, MutableMapping, ValuesView
+from collections.abc import ItemsView, Iterable, Iterator, KeysView, Mapping, MutableMapping, Reversible, ValuesView
 from reprlib import recursive_repr
-from typing import Any, Generic, Self, TypeVar, cast
+from typing import Any, Self, TypeVar, cast
 
 from ._native import ObjectIdentifier, Table
 
 Key = TypeVar("Key", bound=ObjectIdentifier)
 Value = TypeVar("Value")
 Other = TypeVar("Other")
-Entries = Mapping[Key, Value] | Iterable[tuple[ObjectIdentifier, Value]]
 
 
 class SortedMap(Table[Value], MutableMapping[ObjectIdentifier, Value]):
@@ -88,7 +87,7 @@ class SortedMap(Table[Value], MutableMapping[ObjectIdentifier, Value]):
     def __ror__(self, other: Mapping[Key, Value]) -> Self:
         return self.copy().__ior__(SortedMap(other).__ior__(self)) if isinstance(other, Mapping) else NotImplemented
 
-    def __ior__(self, other: Entries[Key, Value]) -> Self:
+    def __ior__(self, other: Mapping[Key, Value] | Iterable[tuple[ObjectIdentifier, Value]]) -> Self:
         self.update(other)
         return self
 
@@ -113,7 +112,7 @@ class SortedMap(Table[Value], MutableMapping[ObjectIdentifier, Value]):
                 setattr(self, name, value)
 
 
-class _View(Generic[Other]):
+class _View(Reversible[Other]):
     """What walks in both directions: over keys, values or entries."""
 
     __slots__ = ()
