@@ -364,21 +364,23 @@ static int add_part(Order *order, uint32_t at, uint32_t count) {
     return 0;
 }
 
-/* Makes room for an index at a place, in a full part by cutting it in two. Keys that come in order fill parts. */
+/* Makes room for an index at a place, in a full part by cutting it in two, of which the other has no more room than it
+ * needs. Keys that come in order fill parts. */
 static int make_room(Tree *tree, Place *place) {
     Order *order = &tree->order;
     if (!order->count) return add_part(order, 0, 0);
     Part *first = &order->parts[place->part];
     if (first->count < PART) return first->count < first->room ? 0 : resize(first, first->count);
     uint32_t kept = place->part == order->count - 1 && place->index == PART ? PART : PART / 2, moved = PART - kept;
-    if (add_part(order, place->part + 1, moved)) return -1;
+    uint32_t is_moved = place->index >= kept;
+    if (add_part(order, place->part + 1, moved - !is_moved)) return -1;
     first = &order->parts[place->part];
     memcpy(first[1].indices, &first->indices[kept], moved * sizeof *first->indices);
     first[1] = (Part){first->bound, first[1].indices, (uint16_t)moved, first[1].room};
     first->count = (uint16_t)kept;
     first->bound = last_entry(tree, place->part)->code;
-    if (moved) resize(first, kept); /* to less, or else it stays as it is */
-    if (place->index >= kept) *place = (Place){place->part + 1, place->index - kept, 0};
+    if (moved) resize(first, kept - is_moved); /* to less, or else it stays as it is */
+    if (is_moved) *place = (Place){place->part + 1, place->index - kept, 0};
     return 0;
 }
 

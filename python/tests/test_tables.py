@@ -434,7 +434,7 @@ class Sorted(unittest.TestCase):
 class Costs(unittest.TestCase):
     def test_its_size_is_that_of_its_memory(self):
         keys = [ObjectIdentifier(f"2.{arc}") for arc in range(3000)]
-        orders = (51.5, keys), (53, keys[::-1]), (52, random.Random(SEED).sample(keys, 3000))  # the most octets a key
+        orders = (51.5, keys), (52, keys[::-1]), (52, random.Random(SEED).sample(keys, 3000))  # the most octets a key
         tracemalloc.start()
         self.addCleanup(tracemalloc.stop)
         for (most, order), left, at_once in itertools.product(orders, (3000, 300, 0), (0, 3000)):
@@ -466,6 +466,7 @@ class Costs(unittest.TestCase):
             "clear": (1, lambda table: table.clear()),
             "|": (3, lambda table: table | {ObjectIdentifier("2.5"): 1}),
             "subtree": (3, lambda table: table.subtree(ObjectIdentifier("1.3"))),
+            "back": (6, lambda table: (keys := [*table], table.clear(), [*map(table.setdefault, keys[::-1])])),
             "popitem": (1, lambda table: [table.popitem() for _ in range(100)]),
             "next_after": (9, lambda table: [table.next_after(key) for key in entries]),
         }
