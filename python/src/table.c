@@ -73,7 +73,10 @@ typedef struct {
 
 /* ---- Entries and runs ---- */
 
+/* Most keys have the type of the first one. */
 static inline int is_key(PyObject *self, PyObject *key) {
+    const Tree *tree = &((Table *)self)->tree;
+    if (tree->used && tree->entries->key && Py_TYPE(key) == Py_TYPE(tree->entries->key)) return 1;
     return is_identifier(key) || raise_wrong_type(self, "key must be an ObjectIdentifier", key);
 }
 
