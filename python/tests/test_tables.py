@@ -312,15 +312,16 @@ class Sorted(unittest.TestCase):
         kept = [*KEYS, value := (KEYS,)]
         given = KEYS.__getitem__, itertools.repeat(value).__next__
         gc.collect()  # which frees what other tests left
-        for call, are_all, full in itertools.product(CALLS.values(), (False, True), (0, 508)):
-            start = [*zip(KEYS[::2], range(4)), *((KEYS[2].child(300 + index), 0) for index in range(1, full))]
+        for call, are_all, (few, full) in itertools.product(CALLS.values(), (False, True), ((0, 0), (4, 0), (4, 508))):
+            start = [*zip(KEYS[::2], range(few)), *((KEYS[2].child(300 + index), 0) for index in range(1, full))]
             start.sort()
             result_of(call, after := SortedMap(start), *given)
             after = [*after.items()]
             counts = [*map(sys.getrefcount, kept)]
             for table, found in without_memory(lambda table: call(table, *given), lambda: SortedMap(start), are_all):
                 wanted = start if found in (MemoryError, SystemError) else after
-                self.assertEqual((len(wanted), wanted), (len(table), [*table.items()]), call)
+                found = len(table), [*table.items()], table.get(KEYS[1])
+                self.assertEqual((len(wanted), wanted, dict(wanted).get(KEYS[1])), found, call)
             table = found = wanted = None
             self.assertEqual(counts, [*map(sys.getrefcount, kept)], call)
         entries = dict.fromkeys(KEYS), 2 * [*zip(KEYS, KEYS)]

@@ -237,6 +237,5 @@ def _pydantic_validators(kind: type[ObjectIdentifier], _: object) -> list[type[O
     return [kind]
 
 
-# The extension module calls OidError and these functions, of the first import, whatever happens to sys.modules. No lazy
-# import outlives this use.
+# The extension module calls these, of the first import, whatever happens to sys.modules. No lazy import outlives it.
 vars(_native).setdefault("support", sys.modules[__name__])
