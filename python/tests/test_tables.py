@@ -233,12 +233,12 @@ class Sorted(unittest.TestCase):
     def test_drawn_maps_do_what_the_model_does(self):
         """Calls in turn, of drawn keys. A key stays the same object."""
         draw = random.Random(SEED)
-        for count in (*draw.choices([0, 1, 2, 20], k=200), 3000):
+        for count in (*draw.choices([0, 1, 2, 20], k=150), 3000):
             model = Model((drawn(draw), 0) for _ in range(count))
             table = SortedMap(draw.sample([*model.items()], len(model)))
             for number in range(50):
-                near = [draw.choice([*model] or KEYS) for _ in range(8)]
-                oids = [draw.choice([drawn(draw), key, key.parent or key, key.child(1)]) for key in near]
+                near = [(key, key.parent or key) for key in draw.choices([*model] or KEYS, k=8)]
+                oids = [draw.choice([drawn(draw), key, up, up.child(201), key.child(1)]) for key, up in near]
                 call = CALLS[draw.choice([*CALLS] if number % 30 == 29 else MOST)]
                 news = (itertools.count(number).__next__ for _ in range(2))
                 found, wanted = (result_of(call, one, oids.__getitem__, next(news)) for one in (table, model))
@@ -309,10 +309,11 @@ class Sorted(unittest.TestCase):
     @unittest.skipUnless(_testcapi, "Python's module for tests of its C API is not installed")
     def test_a_change_is_done_or_not(self):
         """Without memory, a map is as before, also where a part is full, and no reference is kept, nor memory."""
-        kept = [*KEYS, value := (KEYS,)]
+        kept = [*KEYS, value := (KEYS,), other := ObjectIdentifier("2.9")]
         given = KEYS.__getitem__, itertools.repeat(value).__next__
         gc.collect()  # which frees what other tests left
-        for call, are_all, (few, full) in itertools.product(CALLS.values(), (False, True), ((0, 0), (4, 0), (4, 508))):
+        starts = (0, 0, True), *itertools.product([4], (0, 508), (False, True))
+        for call, (few, full, are_all) in itertools.product(CALLS.values(), starts):
             start = [*zip(KEYS[::2], range(few)), *((KEYS[2].child(300 + index), 0) for index in range(1, full))]
             start.sort()
             result_of(call, after := SortedMap(start), *given)
@@ -320,8 +321,7 @@ class Sorted(unittest.TestCase):
             counts = [*map(sys.getrefcount, kept)]
             for table, found in without_memory(lambda table: call(table, *given), lambda: SortedMap(start), are_all):
                 wanted = start if found in (MemoryError, SystemError) else after
-                found = len(table), [*table.items()], table.get(KEYS[1])
-                self.assertEqual((len(wanted), wanted, dict(wanted).get(KEYS[1])), found, call)
+                self.assertEqual((len(wanted), wanted, False), (len(table), [*table.items()], other in table), call)
             table = found = wanted = None
             self.assertEqual(counts, [*map(sys.getrefcount, kept)], call)
         entries = dict.fromkeys(KEYS), 2 * [*zip(KEYS, KEYS)]
