@@ -16,7 +16,7 @@
 
 /* The start of a key, in a number whose order is that of arcs: see encode. */
 typedef struct {
-    uint64_t high;
+    uint64_t high;      /* 0 of an entry that may have no more than the hash: see code_of */
     uint32_t low, hash; /* of an entry, that of the key's octets */
 } Code;
 
@@ -88,38 +88,18 @@ static void swap_values(Entry *left, Entry *right) {
     right->value = value;
 }
 
-/* Eight octets, in a number of their order, or back. */
-static inline uint64_t in_order(uint64_t word) {
-    return __BYTE_ORDER__ == __ORDER_LITTLE_ENDIAN__ ? __builtin_bswap64(word) : word;
-}
-
+/* Eight octets, in a number of their order. */
 static inline uint64_t word_of(const uint8_t *octets) {
     uint64_t word;
     memcpy(&word, octets, sizeof word);
-    return in_order(word);
+    return __BYTE_ORDER__ == __ORDER_LITTLE_ENDIAN__ ? __builtin_bswap64(word) : word;
 }
 
 /* A subidentifier of several octets comes after their number, which is above all single ones. If the codes of two keys
- * differ, the keys are in their order. The single octets that a key begins with are found by one look at eight, and so
- * are the next ones, if they are several, of which all but the last have the high bit. */
+ * differ, the keys are in their order. */
 static Code encode(const const_oid_octets *items) {
-    uint8_t room[16 + 5] = {0}, *out = room, *number = NULL;
+    uint8_t room[24] = {0}, *out = room, *number = NULL;
     const uint8_t *octets = items->octets, *end = octets + items->len;
-    if (items->len >= 8) {
-        const uint64_t high_bits = UINT64_C(0x8080808080808080);
-        uint64_t word = word_of(octets), several = word & high_bits;
-        size_t count = several ? (size_t)__builtin_clzll(several) / 8 : 8;
-        memcpy(out, octets, 8); /* what is not single is overwritten */
-        octets += count, out += count;
-        uint64_t last = (several ^ high_bits) << 4 * count << 4 * count;
-        if (last) {
-            word = in_order(word << 8 * count);
-            memcpy(out + 1, &word, 8);
-            count = (size_t)__builtin_clzll(last) / 8 + 1;
-            *out = (uint8_t)(128 + count);
-            octets += count, out += count + 1;
-        }
-    }
     while (octets < end && (number || out < &room[12])) {
         uint8_t octet = *octets++;
         if (!number && octet > 127) *(number = out++) = 128;
@@ -135,20 +115,32 @@ static int compare_codes(Code left, Code right) {
     return (left.low > right.low) - (left.low < right.low);
 }
 
-/* Compares the key of an entry with some items and their code. */
-static inline int compare(const Entry *entry, const const_oid_octets *items, Code code) {
-    int order = compare_codes(entry->code, code);
-    return order ? order : const_oid_by_arcs(items_of(entry->key), items);
-}
-
-static inline int compare_entries(const Entry *left, const Entry *right) {
-    return compare(left, items_of(right->key), right->code);
-}
-
 /* The hash of bytes, which they keep, and which has the seed of Python. */
 static hashfunc hash_bytes;
 
 static uint32_t hash_of(PyObject *key) { return (uint32_t)hash_bytes(((Identifier *)key)->octets); }
+
+/* The code of an entry, which it has from the first search that needs it on. */
+static inline Code code_of(Entry *entry) {
+    if (!entry->code.high) {
+        uint32_t hash = entry->code.hash;
+        entry->code = encode(items_of(entry->key));
+        entry->code.hash = hash;
+    }
+    return entry->code;
+}
+
+/* Compares the key of an entry with some items and their code. */
+static inline int compare(Entry *entry, const const_oid_octets *items, Code code) {
+    int order = compare_codes(code_of(entry), code);
+    return order ? order : const_oid_by_arcs(items_of(entry->key), items);
+}
+
+/* The same of two entries with codes. */
+static inline int compare_entries(const Entry *left, const Entry *right) {
+    int order = compare_codes(left->code, right->code);
+    return order ? order : const_oid_by_arcs(items_of(left->key), items_of(right->key));
+}
 
 /* Makes room for more entries, or raises MemoryError. */
 static int reserve_run(Run *run, size_t more) {
@@ -182,17 +174,21 @@ static void drop(Run *run) {
     PyMem_Free(run->entries);
 }
 
-/* Gives entries their codes. Whether each key comes after the one before it. */
-static int encode_all(Run *run) {
+/* Gives entries their hashes. Whether each key comes after the one before it. If not, and they are to be sorted, those
+ * that are later get their codes, while their keys are in a cache. */
+static int hash_all(Run *run, int is_to_sort) {
+    const const_oid_octets *last = NULL;
     int is_in_order = 1;
     for (Entry *entry = run->entries, *end = entry + run->count; entry < end; entry++) {
         if (end - entry > 2 * AHEAD) {
             __builtin_prefetch(entry[2 * AHEAD].key);
             __builtin_prefetch(items_of(entry[AHEAD].key)->octets);
         }
-        entry->code = encode(items_of(entry->key));
-        entry->code.hash = hash_of(entry->key);
-        if (entry > run->entries) is_in_order &= compare_entries(entry - 1, entry) < 0;
+        const const_oid_octets *items = items_of(entry->key);
+        entry->code = (Code){.hash = hash_of(entry->key)};
+        if (is_in_order && last) is_in_order = const_oid_by_arcs(last, items) < 0;
+        if (!is_in_order && is_to_sort) code_of(entry);
+        last = items;
     }
     return is_in_order;
 }
@@ -215,6 +211,7 @@ static void sort(Entry *entries, size_t count, Entry *room) {
 static int put_in_order(Run *run) {
     Entry *room = PyMem_Malloc(run->count / 2 * sizeof *room);
     if (!room) return 0;
+    for (size_t index = 0; index < run->count; index++) code_of(&run->entries[index]);
     sort(run->entries, run->count, room);
     PyMem_Free(room);
     size_t index = 1;
@@ -334,7 +331,7 @@ static Place find(const Tree *tree, const const_oid_octets *items, Code code) {
     return place;
 }
 
-static Place place_of(const Tree *tree, const Entry *entry) { return find(tree, items_of(entry->key), entry->code); }
+static Place place_of(const Tree *tree, Entry *entry) { return find(tree, items_of(entry->key), code_of(entry)); }
 
 /* The entry at a place that some items have, or else the one before it. NULL before all. */
 static const Entry *entry_up_to(const Tree *tree, Place place) {
@@ -381,7 +378,7 @@ static int make_room(Tree *tree, Place *place) {
     memcpy(first[1].indices, &first->indices[kept], moved * sizeof *first->indices);
     first[1] = (Part){first->bound, first[1].indices, (uint16_t)moved, first[1].room};
     first->count = (uint16_t)kept;
-    first->bound = last_entry(tree, place->part)->code;
+    first->bound = code_of(last_entry(tree, place->part));
     if (moved) resize(first, kept - is_moved); /* to less, or else it stays as it is */
     if (is_moved) *place = (Place){place->part + 1, place->index - kept, 0};
     return 0;
@@ -458,7 +455,7 @@ static int fill_parts(Tree *tree) {
         Part *part = &tree->order.parts[tree->order.count - 1];
         for (uint32_t at = 0; at < count; at++) part->indices[at] = index++;
         part->count = (uint16_t)count;
-        part->bound = tree->entries[index - 1].code;
+        part->bound = code_of(&tree->entries[index - 1]);
     }
     return 0;
 }
@@ -480,7 +477,7 @@ static int fill(Tree *tree, Run *run) {
 /* Sets all entries of a run, or none, with MemoryError. The run then has what is no longer needed. */
 static int update(Tree *tree, Run *run) {
     size_t done = 0;
-    int is_in_order = encode_all(run) || (!tree->size && put_in_order(run));
+    int is_in_order = hash_all(run, !tree->size) || (!tree->size && put_in_order(run));
     if (is_in_order && !tree->size && run->count) return fill(tree, run) ? PyErr_NoMemory(), -1 : 0;
     while (done < run->count && !exchange(tree, &run->entries[done])) done++;
     if (done == run->count) return 0;
@@ -535,8 +532,7 @@ static PyObject *table_subscript(PyObject *self, PyObject *key) {
 
 /* Puts an entry in, whose key is not there. */
 static int add_new(Tree *tree, PyObject *key, PyObject *value) {
-    Entry entry = {Py_NewRef(key), {Py_NewRef(value)}, encode(items_of(key))};
-    entry.code.hash = hash_of(key);
+    Entry entry = {Py_NewRef(key), {Py_NewRef(value)}, {.hash = hash_of(key)}};
     if (add(tree, entry)) return 0;
     Py_DecRef(value);
     Py_DecRef(key);
@@ -589,7 +585,7 @@ WITH_KEY(table_get) {
 
 WITH_KEY(table_pop) {
     READ("O|O:pop", 2, "key", "default");
-    const Entry *there = lookup(tree, key);
+    Entry *there = lookup(tree, key);
     if (!there) return count > 1 && given[1] ? Py_NewRef(given[1]) : raise_missing(key);
     Entry entry = take(tree, place_of(tree, there));
     Py_DecRef(entry.key);
