@@ -162,7 +162,7 @@ def seconds(call, *given):
 
 def is_linear(call, of):
     short, long = of(10_000), of(80_000)
-    return min(seconds(call, long) for _ in range(3)) < 24 * min(seconds(call, short) for _ in range(5))
+    return any(seconds(call, long) < 24 * min(seconds(call, short) for _ in range(5)) for _ in range(5))
 
 
 def copies_of(value, protocols=range(pickle.HIGHEST_PROTOCOL + 1)):
