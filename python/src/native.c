@@ -54,8 +54,9 @@ static PyObject *raise_status(PyObject *self, const_oid_status status, PyObject 
     return raise_by_support(self, "OidError", Py_BuildValue("IIO", status.code, status.detail, given));
 }
 
+/* What is given may be borrowed of what garbage changes, which Python 3.11 finds while the tuple is made. */
 PyObject *raise_wrong_type(PyObject *self, const char *wanted, PyObject *given) {
-    return raise_by_support(self, "_wrong_type", Py_BuildValue("sO", wanted, given));
+    return raise_by_support(self, "_wrong_type", Py_BuildValue("sN", wanted, Py_NewRef(given)));
 }
 
 /* A new object of a type, with valid octets, to which it steals a reference. */
@@ -432,7 +433,7 @@ static PyObject *wrong_component(PyObject *Py_UNUSED(module), PyObject *text) {
 
 static PyMethodDef identifier_methods[] = {
     {"from_bytes", identifier_from_bytes, METH_O | METH_CLASS, "from_bytes($type, octets, /)\n--\n\n"
-        "Decodes contents octets: those after the tag and the length. An element, or the bytes of a text, is read\n"
+        "Decodes contents octets: those after the tag and the length. An element, or the bytes of a text, may be read\n"
         "without an error as another identifier: from_der takes an element, and ObjectIdentifier a text.\n\n"
         ">>> ObjectIdentifier.from_bytes(b\"\\x2a\\x86\\x48\"), ObjectIdentifier.from_bytes(b\"1.2\")\n"
         "(ObjectIdentifier('1.2.840'), ObjectIdentifier('1.9.46.50'))"},
@@ -441,8 +442,8 @@ static PyMethodDef identifier_methods[] = {
         ">>> ObjectIdentifier.from_der(b\"\\x06\\x03\\x2a\\x86\\x48\")\nObjectIdentifier('1.2.840')"},
     {"read_der", identifier_read_der, METH_O | METH_CLASS, "read_der($type, octets, /)\n--\n\n"
         "Decodes the element that octets begin with, and returns the identifier and the octets after it. Those of a\n"
-        "contiguous memoryview of bytes are another one and no copy. An error has the octets of the element, at most\n"
-        "128, so that a loop takes linear time.\n\n"
+        "memoryview of bytes, contiguous, of one dimension, are another one and no copy. An error has the octets of\n"
+        "the element, at most 128, so that a loop takes linear time.\n\n"
         ">>> ObjectIdentifier.read_der(b\"\\x06\\x03\\x2a\\x86\\x48\\x05\\x00\")\n"
         "(ObjectIdentifier('1.2.840'), b'\\x05\\x00')"},
     {"from_arcs", identifier_from_arcs, METH_O | METH_CLASS, "from_arcs($type, arcs, /)\n--\n\n"

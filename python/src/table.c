@@ -2,14 +2,12 @@
  * compared by their octets alone. No code of Python runs between two steps of a change: what it needs is allocated
  * before it, and what it no longer needs is given up after it, since the end of a value may change the table again. */
 #include "native.h"
+#include <stdlib.h>
 
 /* The most keys of a part, two or more, so that one more moves few of them. */
 #ifndef PART
 #define PART 64
 #endif
-
-/* How many keys later memory is fetched, before it is read. */
-#define AHEAD 8
 
 /* The most entries of a table: their indices have less than 32 bits. */
 #define MOST (UINT32_C(1) << 30)
@@ -43,18 +41,12 @@ typedef struct {
     uint16_t count, room;
 } Part;
 
-/* Indices in the order of their keys, in parts that all have some. */
-typedef struct {
-    Part *parts;
-    uint32_t count, room;
-} Order;
-
 /* The number of an entry is one more than its index, and 0 is none. */
 typedef struct {
     Entry *entries;
     uint32_t *slots;            /* numbers of entries by a hash of their keys: see slot_of */
-    Order order;                /* the same indices by the keys themselves */
-    uint32_t mask;              /* one less than how many slots there are, a power of two */
+    Part *parts;                /* indices in the order of the keys themselves, in parts that all have some */
+    uint32_t part_count, part_room, mask; /* and one less than how many slots there are, a power of two */
     uint32_t size, used, room;  /* how many entries are there, were there at a time, and have room */
     uint32_t vacant;            /* the number of the first that was there */
     unsigned long long version; /* how often keys came or went */
@@ -136,12 +128,6 @@ static inline int compare(Entry *entry, const const_oid_octets *items, Code code
     return order ? order : const_oid_by_arcs(items_of(entry->key), items);
 }
 
-/* The same of two entries with codes. */
-static inline int compare_entries(const Entry *left, const Entry *right) {
-    int order = compare_codes(left->code, right->code);
-    return order ? order : const_oid_by_arcs(items_of(left->key), items_of(right->key));
-}
-
 /* Makes room for more entries, or raises MemoryError. */
 static int reserve_run(Run *run, size_t more) {
     size_t room = run->count + run->count / 2 + more;
@@ -174,48 +160,36 @@ static void drop(Run *run) {
     PyMem_Free(run->entries);
 }
 
-/* Gives entries their hashes. Whether each key comes after the one before it. If not, and they are to be sorted, those
- * that are later get their codes, while their keys are in a cache. */
-static int hash_all(Run *run, int is_to_sort) {
+/* Gives entries their hashes. Whether each key comes after the one before it. */
+static int hash_all(Run *run) {
     const const_oid_octets *last = NULL;
     int is_in_order = 1;
     for (Entry *entry = run->entries, *end = entry + run->count; entry < end; entry++) {
-        if (end - entry > 2 * AHEAD) {
-            __builtin_prefetch(entry[2 * AHEAD].key);
-            __builtin_prefetch(items_of(entry[AHEAD].key)->octets);
-        }
         const const_oid_octets *items = items_of(entry->key);
         entry->code = (Code){.hash = hash_of(entry->key)};
         if (is_in_order && last) is_in_order = const_oid_by_arcs(last, items) < 0;
-        if (!is_in_order && is_to_sort) code_of(entry);
         last = items;
     }
     return is_in_order;
 }
 
-/* Sorts entries, of which equal ones stay in turn, with room for half of them. */
-static void sort(Entry *entries, size_t count, Entry *room) {
-    size_t half = count / 2, left = 0, right = half;
-    if (count < 2) return;
-    sort(entries, half, room);
-    sort(&entries[half], count - half, room);
-    if (compare_entries(&entries[half - 1], &entries[half]) <= 0) return;
-    memcpy(room, entries, half * sizeof *entries);
-    for (Entry *out = entries; left < half; out++) {
-        int is_right = right < count && compare_entries(&entries[right], &room[left]) < 0;
-        *out = is_right ? entries[right++] : room[left++];
-    }
+static int compare_entries(const void *left, const void *right) {
+    const Entry *one = left, *other = right;
+    int order = compare_codes(one->code, other->code);
+    return order ? order : const_oid_by_arcs(items_of(one->key), items_of(other->key));
 }
 
-/* Sorts a run, if there is memory for it. Whether it is in order then, which it is not if two keys are equal. */
+/* Sorts a run, if there is memory for it and no two keys are equal, of which the last value counts. */
 static int put_in_order(Run *run) {
-    Entry *room = PyMem_Malloc(run->count / 2 * sizeof *room);
-    if (!room) return 0;
+    Entry *sorted = PyMem_Malloc(run->count * sizeof *sorted);
+    if (!sorted) return 0;
     for (size_t index = 0; index < run->count; index++) code_of(&run->entries[index]);
-    sort(run->entries, run->count, room);
-    PyMem_Free(room);
+    memcpy(sorted, run->entries, run->count * sizeof *sorted);
+    qsort(sorted, run->count, sizeof *sorted, compare_entries);
     size_t index = 1;
-    while (index < run->count && !is_same(run->entries[index - 1].key, run->entries[index].key)) index++;
+    while (index < run->count && !is_same(sorted[index - 1].key, sorted[index].key)) index++;
+    if (index >= run->count) memcpy(run->entries, sorted, run->count * sizeof *sorted);
+    PyMem_Free(sorted);
     return index >= run->count;
 }
 
@@ -289,24 +263,24 @@ static int reserve(Tree *tree, size_t more) {
 
 /* The entry at a place, which moves on, or NULL after all. */
 static inline Entry *next_entry(const Tree *tree, Place *place) {
-    const Part *parts = tree->order.parts;
-    uint32_t count = tree->order.count;
+    const Part *parts = tree->parts;
+    uint32_t count = tree->part_count;
     if (place->part < count && place->index == parts[place->part].count) *place = (Place){place->part + 1, 0, 0};
     return place->part < count ? &tree->entries[parts[place->part].indices[place->index++]] : NULL;
 }
 
 /* The last entry of a part. */
 static Entry *last_entry(const Tree *tree, uint32_t at) {
-    const Part *part = &tree->order.parts[at];
+    const Part *part = &tree->parts[at];
     return &tree->entries[part->indices[part->count - 1]];
 }
 
 /* The part for a key with some items and their code. */
 static uint32_t find_part(const Tree *tree, const const_oid_octets *items, Code code) {
     uint32_t first = 0;
-    for (uint32_t end = tree->order.count - 1; first < end;) {
+    for (uint32_t end = tree->part_count - 1; first < end;) {
         uint32_t middle = (first + end) / 2;
-        int order = compare_codes(tree->order.parts[middle].bound, code);
+        int order = compare_codes(tree->parts[middle].bound, code);
         if (!order) order = compare(last_entry(tree, middle), items, code);
         first = order < 0 ? middle + 1 : first;
         end = order < 0 ? end : middle;
@@ -316,11 +290,11 @@ static uint32_t find_part(const Tree *tree, const const_oid_octets *items, Code 
 
 /* The place of some items: after all keys that are before them. That after all is found at once. */
 static Place find(const Tree *tree, const const_oid_octets *items, Code code) {
-    uint32_t last = tree->order.count - 1;
+    uint32_t last = tree->part_count - 1;
     if (!tree->size) return (Place){0, 0, 0};
-    if (compare(last_entry(tree, last), items, code) < 0) return (Place){last, tree->order.parts[last].count, 0};
+    if (compare(last_entry(tree, last), items, code) < 0) return (Place){last, tree->parts[last].count, 0};
     Place place = {find_part(tree, items, code), 0, 0};
-    const Part *part = &tree->order.parts[place.part];
+    const Part *part = &tree->parts[place.part];
     for (uint32_t end = part->count; place.index < end;) {
         uint32_t middle = (place.index + end) / 2;
         int order = compare(&tree->entries[part->indices[middle]], items, code);
@@ -336,7 +310,7 @@ static Place place_of(const Tree *tree, Entry *entry) { return find(tree, items_
 /* The entry at a place that some items have, or else the one before it. NULL before all. */
 static const Entry *entry_up_to(const Tree *tree, Place place) {
     if (!place.is_there && !place.index) return place.part ? last_entry(tree, place.part - 1) : NULL;
-    return &tree->entries[tree->order.parts[place.part].indices[place.index - !place.is_there]];
+    return &tree->entries[tree->parts[place.part].indices[place.index - !place.is_there]];
 }
 
 /* Gives a part room for at least one index more than a count: for a multiple of eight, which is 32 octets. */
@@ -349,32 +323,31 @@ static int resize(Part *part, uint32_t count) {
 }
 
 /* Puts an empty part, with such room, among the others. */
-static int add_part(Order *order, uint32_t at, uint32_t count) {
+static int add_part(Tree *tree, uint32_t at, uint32_t count) {
     Part part = {0};
-    if (order->count == order->room) {
-        uint32_t room = order->room + order->room / 4 + 1;
-        Part *parts = PyMem_Realloc(order->parts, room * sizeof *parts);
+    if (tree->part_count == tree->part_room) {
+        uint32_t room = tree->part_room + tree->part_room / 4 + 1;
+        Part *parts = PyMem_Realloc(tree->parts, room * sizeof *parts);
         if (!parts) return -1;
-        order->parts = parts;
-        order->room = room;
+        tree->parts = parts;
+        tree->part_room = room;
     }
     if (resize(&part, count)) return -1;
-    memmove(&order->parts[at + 1], &order->parts[at], (order->count++ - at) * sizeof part);
-    order->parts[at] = part;
+    memmove(&tree->parts[at + 1], &tree->parts[at], (tree->part_count++ - at) * sizeof part);
+    tree->parts[at] = part;
     return 0;
 }
 
 /* Makes room for an index at a place, in a full part by cutting it in two, of which the other has no more room than it
  * needs. Keys that come in order fill parts. */
 static int make_room(Tree *tree, Place *place) {
-    Order *order = &tree->order;
-    if (!order->count) return add_part(order, 0, 0);
-    Part *first = &order->parts[place->part];
+    if (!tree->part_count) return add_part(tree, 0, 0);
+    Part *first = &tree->parts[place->part];
     if (first->count < PART) return first->count < first->room ? 0 : resize(first, first->count);
-    uint32_t kept = place->part == order->count - 1 && place->index == PART ? PART : PART / 2, moved = PART - kept;
+    uint32_t kept = place->part == tree->part_count - 1 && place->index == PART ? PART : PART / 2, moved = PART - kept;
     uint32_t is_moved = place->index >= kept;
-    if (add_part(order, place->part + 1, moved - !is_moved)) return -1;
-    first = &order->parts[place->part];
+    if (add_part(tree, place->part + 1, moved - !is_moved)) return -1;
+    first = &tree->parts[place->part];
     memcpy(first[1].indices, &first->indices[kept], moved * sizeof *first->indices);
     first[1] = (Part){first->bound, first[1].indices, (uint16_t)moved, first[1].room};
     first->count = (uint16_t)kept;
@@ -391,7 +364,7 @@ static int make_room(Tree *tree, Place *place) {
 static uint32_t add(Tree *tree, Entry entry) {
     Place place = place_of(tree, &entry);
     if (reserve(tree, 1) || make_room(tree, &place)) return 0;
-    Part *part = &tree->order.parts[place.part];
+    Part *part = &tree->parts[place.part];
     uint32_t *at = &part->indices[place.index];
     memmove(at + 1, at, (part->count++ - place.index) * sizeof *at);
     uint32_t index = *at = tree->vacant ? tree->vacant - 1 : tree->used++;
@@ -406,14 +379,14 @@ static uint32_t add(Tree *tree, Entry entry) {
 /* Takes out the entry at a place, with its references, and its part if that has no other. The next one that is added
  * comes there. */
 static Entry take(Tree *tree, Place place) {
-    Part *part = &tree->order.parts[place.part];
+    Part *part = &tree->parts[place.part];
     uint32_t *at = &part->indices[place.index], index = *at;
     Entry entry = tree->entries[index];
     free_slot(tree, slot_of(tree, entry.key));
     memmove(at, at + 1, (--part->count - place.index) * sizeof *at);
     if (!part->count) {
         PyMem_Free(part->indices);
-        memmove(part, part + 1, (--tree->order.count - place.part) * sizeof *part);
+        memmove(part, part + 1, (--tree->part_count - place.part) * sizeof *part);
     }
     tree->entries[index] = (Entry){.vacant = tree->vacant};
     tree->vacant = index + 1;
@@ -441,8 +414,8 @@ static void change_back(Tree *tree, Entry *entry) {
 /* Gives up a tree that no table has any more. */
 static void drop_tree(Tree tree) {
     Run run = {.entries = tree.entries, .count = tree.used};
-    while (tree.order.count) PyMem_Free(tree.order.parts[--tree.order.count].indices);
-    PyMem_Free(tree.order.parts);
+    while (tree.part_count) PyMem_Free(tree.parts[--tree.part_count].indices);
+    PyMem_Free(tree.parts);
     PyMem_Free(tree.slots);
     drop(&run);
 }
@@ -451,8 +424,8 @@ static void drop_tree(Tree tree) {
 static int fill_parts(Tree *tree) {
     for (uint32_t index = 0; index < tree->size;) {
         uint32_t left = tree->size - index, count = left < PART ? left : PART;
-        if (add_part(&tree->order, tree->order.count, count - 1)) return -1;
-        Part *part = &tree->order.parts[tree->order.count - 1];
+        if (add_part(tree, tree->part_count, count - 1)) return -1;
+        Part *part = &tree->parts[tree->part_count - 1];
         for (uint32_t at = 0; at < count; at++) part->indices[at] = index++;
         part->count = (uint16_t)count;
         part->bound = code_of(&tree->entries[index - 1]);
@@ -469,7 +442,7 @@ static int fill(Tree *tree, Run *run) {
     made.size = made.used = made.room = (uint32_t)run->count;
     int error = reserve_slots(&made, made.size) || fill_parts(&made);
     if (!error) *tree = made, *run = (Run){0};
-    else other = (Tree){.slots = made.slots, .order = made.order};
+    else other = (Tree){.slots = made.slots, .parts = made.parts, .part_count = made.part_count};
     drop_tree(other);
     return error;
 }
@@ -477,7 +450,7 @@ static int fill(Tree *tree, Run *run) {
 /* Sets all entries of a run, or none, with MemoryError. The run then has what is no longer needed. */
 static int update(Tree *tree, Run *run) {
     size_t done = 0;
-    int is_in_order = hash_all(run, !tree->size) || (!tree->size && put_in_order(run));
+    int is_in_order = hash_all(run) || (!tree->size && put_in_order(run));
     if (is_in_order && !tree->size && run->count) return fill(tree, run) ? PyErr_NoMemory(), -1 : 0;
     while (done < run->count && !exchange(tree, &run->entries[done])) done++;
     if (done == run->count) return 0;
@@ -485,20 +458,19 @@ static int update(Tree *tree, Run *run) {
     return PyErr_NoMemory(), -1;
 }
 
-/* Puts another tree in the place of a table's, which it gives up. */
-static void replace(PyObject *self, Tree with) {
-    Tree before = ((Table *)self)->tree;
-    with.version = before.version + 1;
-    ((Table *)self)->tree = with;
-    drop_tree(before);
-}
-
 /* ---- The class ---- */
+
+/* Takes all entries out, and then gives them up. */
+static int table_clear_all(PyObject *self) {
+    Tree *tree = &((Table *)self)->tree, before = *tree;
+    *tree = (Tree){.version = before.version + (before.size > 0)};
+    return drop_tree(before), 0;
+}
 
 void table_dealloc(PyObject *self) {
     PyTypeObject *type = Py_TYPE(self);
     PyObject_GC_UnTrack(self);
-    replace(self, (Tree){0});
+    table_clear_all(self);
     ((freefunc)PyType_GetSlot(type, Py_tp_free))(self);
     Py_DecRef((PyObject *)type);
 }
@@ -513,8 +485,6 @@ static int table_traverse(PyObject *self, visitproc visit, void *arg) {
     Py_VISIT(Py_TYPE(self));
     return 0;
 }
-
-static int table_clear_all(PyObject *self) { return replace(self, (Tree){0}), 0; }
 
 static PyObject *raise_missing(PyObject *key) { return PyErr_SetObject(PyExc_KeyError, key), (PyObject *)NULL; }
 
@@ -620,15 +590,15 @@ static PyObject *table_popitem(PyObject *self, PyObject *Py_UNUSED(none)) {
     OWNED *pair = PyTuple_New(2);
     if (!pair) return NULL;
     if (!tree->size) return PyErr_SetString(PyExc_KeyError, "popitem(): the map is empty"), NULL;
-    uint32_t part = tree->order.count - 1;
-    Entry entry = take(tree, (Place){part, tree->order.parts[part].count - 1, 1});
+    uint32_t part = tree->part_count - 1;
+    Entry entry = take(tree, (Place){part, tree->parts[part].count - 1, 1});
     PyTuple_SetItem(pair, 0, entry.key);
     PyTuple_SetItem(pair, 1, entry.value);
     return Py_NewRef(pair);
 }
 
 static PyObject *table_clear(PyObject *self, PyObject *Py_UNUSED(none)) {
-    replace(self, (Tree){0});
+    table_clear_all(self);
     return Py_NewRef(Py_None);
 }
 
@@ -667,18 +637,16 @@ static int append_all(const Tree *tree, Place place, const const_oid_octets *sta
     return error;
 }
 
-/* A list of what a run has, which it gives up: tuples, or, of two items each, keys and values in turn. It is made last,
- * when nothing else runs any more. */
-static PyObject *list_of(Run *run, int error, Py_ssize_t each) {
-    for (size_t index = 0; each == 1 && !error && index < run->count; index++) {
+/* A list of tuples of what a run has, which it gives up. It is made last, when nothing else runs any more. */
+static PyObject *list_of(Run *run, int error) {
+    for (size_t index = 0; !error && index < run->count; index++) {
         Entry *entry = &run->entries[index], taken = *entry;
         *entry = (Entry){0};
         error = !(entry->key = pair_of(taken.key, taken.value));
     }
-    PyObject *list = error ? NULL : PyList_New(each * (Py_ssize_t)run->count);
+    PyObject *list = error ? NULL : PyList_New((Py_ssize_t)run->count);
     for (Py_ssize_t index = 0; list && index < (Py_ssize_t)run->count; index++) {
-        PyList_SetItem(list, each * index, run->entries[index].key);
-        if (each == 2) PyList_SetItem(list, 2 * index + 1, run->entries[index].value);
+        PyList_SetItem(list, index, run->entries[index].key);
         run->entries[index].key = NULL;
     }
     drop(run);
@@ -688,20 +656,15 @@ static PyObject *list_of(Run *run, int error, Py_ssize_t each) {
 WITH_KEY(table_subtree) {
     READ("O:subtree", 1, "oid");
     Run run = {0};
-    return list_of(&run, append_all(tree, find(tree, items_of(key), encode(items_of(key))), items_of(key), &run), 1);
-}
-
-static PyObject *table_flat(PyObject *self, PyObject *Py_UNUSED(none)) {
-    Run run = {0};
-    return list_of(&run, append_all(&((Table *)self)->tree, (Place){0, 0, 0}, NULL, &run), 2);
+    return list_of(&run, append_all(tree, find(tree, items_of(key), encode(items_of(key))), items_of(key), &run));
 }
 
 static PyObject *table_sizeof(PyObject *self, PyObject *Py_UNUSED(none)) {
     const Tree *tree = &((Table *)self)->tree;
     OWNED *own = PyObject_CallMethod((PyObject *)&PyBaseObject_Type, "__sizeof__", "O", self);
     size_t size = own ? PyLong_AsSize_t(own) : 0, slots = tree->slots ? (size_t)tree->mask + 1 : 0;
-    size += tree->room * sizeof(Entry) + (size_t)tree->order.room * sizeof(Part);
-    for (uint32_t at = 0; at < tree->order.count; at++) slots += tree->order.parts[at].room;
+    size += tree->room * sizeof(Entry) + (size_t)tree->part_room * sizeof(Part);
+    for (uint32_t at = 0; at < tree->part_count; at++) slots += tree->parts[at].room;
     return own ? PyLong_FromSize_t(size + slots * sizeof *tree->slots) : NULL;
 }
 
@@ -754,10 +717,10 @@ static int collect(PyObject *self, PyObject *given, Run *run) {
     return collect_items(self, keys, method ? given : NULL, run);
 }
 
-/* Sets the entries of a mapping or an iterable in a tree: all, or none. */
-static int set_all(PyObject *self, Tree *tree, PyObject *given) {
+/* Sets the entries of a mapping or an iterable: all, or none. */
+static int set_all(PyObject *self, PyObject *given) {
     Run run = {0};
-    int error = given && (collect(self, given, &run) || update(tree, &run));
+    int error = given && (collect(self, given, &run) || update(&((Table *)self)->tree, &run));
     drop(&run);
     return error ? -1 : 0;
 }
@@ -765,16 +728,14 @@ static int set_all(PyObject *self, Tree *tree, PyObject *given) {
 static int table_init(PyObject *self, PyObject *arguments, PyObject *keywords) {
     static char *names[] = {"entries", NULL};
     PyObject *entries = NULL;
-    Tree tree = {0};
     if (!PyArg_ParseTupleAndKeywords(arguments, keywords, "|O:SortedMap", names, &entries)) return -1;
-    if (set_all(self, &tree, entries)) return drop_tree(tree), -1;
-    return replace(self, tree), 0;
+    return set_all(self, entries);
 }
 
 static PyObject *table_update(PyObject *self, PyObject *arguments) {
     PyObject *entries = NULL;
     if (!PyArg_UnpackTuple(arguments, "update", 0, 1, &entries)) return NULL;
-    return set_all(self, &((Table *)self)->tree, entries) ? NULL : Py_NewRef(Py_None);
+    return set_all(self, entries) ? NULL : Py_NewRef(Py_None);
 }
 
 /* ---- Iterators ---- */
@@ -821,12 +782,13 @@ static __attribute__((noinline)) PyObject *walk_on(Walk *walk) {
         Py_DecRef(table);
         return NULL;
     }
-    const Part *part = &tree->order.parts[walk->part += walk->step];
+    const Part *part = &tree->parts[walk->part += walk->step];
     walk->indices = part->indices;
     walk->at = walk->step == 1 ? 0 : part->count - 1;
     walk->end = walk->at + part->count * walk->step;
     walk->left -= part->count;
-    for (uint32_t at = 0; at < part->count; at++) __builtin_prefetch(tree->entries[part->indices[at]].key);
+    const uint32_t *at = &part->indices[walk->at];
+    for (int left = part->count; __builtin_prefetch(tree->entries[*at].key), --left;) at += (int)walk->step;
     return walk_next((PyObject *)walk);
 }
 
@@ -870,7 +832,7 @@ static PyObject *walk_over(PyObject *self, long way) {
     walk->left = tree->size;
     walk->kind = (int)(way % BACK);
     walk->step = way < BACK ? 1 : UINT32_MAX;
-    walk->part = way < BACK ? UINT32_MAX : tree->order.count;
+    walk->part = way < BACK ? UINT32_MAX : tree->part_count;
     return (PyObject *)walk;
 }
 
@@ -924,7 +886,6 @@ static PyMethodDef table_methods[] = {
         ">>> names = SortedMap(zip(map(ObjectIdentifier.from_arcs, arcs), [1, 2, 3]))\n"
         ">>> names.subtree(ObjectIdentifier(\"2.5\"))\n"
         "[(ObjectIdentifier('2.5.4'), 1), (ObjectIdentifier('2.5.4.3'), 2)]"},
-    {"_flat", table_flat, METH_NOARGS, "_flat($self, /)\n--\n\nAll keys and values in turn, as of one moment."},
     {"_walk", table_walk, METH_O, "_walk($self, way, /)\n--\n\nKeys, values or entries: 0, 1, 2, or back: 3, 4, 5."},
     {"__class_getitem__", Py_GenericAlias, METH_O | METH_CLASS, "For types."},
     {"__reversed__", table_reversed, METH_NOARGS, "__reversed__($self, /)\n--\n\nAn iterator of keys, back."},

@@ -103,10 +103,6 @@ class Attributes(SortedMap):
 class Model(dict):
     """What a map does, by looks at all keys."""
 
-    def __init__(self, entries):
-        self.clear()
-        self.update(entries)
-
     popitem = lambda self: ((last := max(self, default=None)), self.pop(last))
     nearest = lambda self, oid: max((item for item in self.items() if oid.starts_with(item[0])), default=None)
     next_after = lambda self, oid: min((item for item in self.items() if item[0] > oid), default=None)
@@ -257,9 +253,11 @@ class Sorted(unittest.TestCase):
         self.assertEqual((Attributes, {oid: [1]}, ()), (type(made), made, made.given))
         table[oid.child(1)] = table
         self.assertEqual(f"SortedMap({{{oid!r}: 1, {oid.child(1)!r}: {{...}}}})", repr(table))
-        bare, table = SortedMap.__new__(SortedMap), SortedMap.fromkeys(KEYS)
-        self.assertEqual(([[]] * 7, None, table), ([*readings(bare)], bare.update(table), bare))
-        self.assertEqual((KEYS[::-1], None, {}), ([*reversed(table)], bare.__init__(), bare))
+        self.assertNotEqual(SortedMap({oid: Own("2.5")}), {KEYS[0]: Own("2.5")})  # which asks no value
+        walk, table = iter(bare := SortedMap.__new__(SortedMap)), SortedMap.fromkeys(KEYS)
+        found = [*readings(bare)], bare.clear(), [*walk], bare.update(table) or bare
+        self.assertEqual(([[]] * 7, None, [], table), found)
+        self.assertEqual((KEYS[::-1], None, {}), ([*reversed(table)], bare.clear(), bare))
         given = type("Others", (dict,), {"__iter__": None, "keys": lambda _: KEYS[:2]})(dict(zip(KEYS, range(3))))
         self.assertEqual(dict(given), SortedMap(given))
 
@@ -268,11 +266,11 @@ class Sorted(unittest.TestCase):
         one, other, values = ObjectIdentifier("2.5"), ObjectIdentifier("2.6"), [1]
         source = {one: values}
         table = Attributes(source)
-        table.name, table.slot = "name", [2]
+        table.name, table.slot, table._keys, table._values = "name", [2], 3, 4
         with mock.patch.object(Attributes, "__init__", own):
             shared, apart = [table.copy(), copy.copy(table), table | {}, {} | table], copies_of(table, range(2, 6))
         for made in shared + apart:
-            self.assertEqual((Attributes, "name", [2]), (type(made), made.name, made.slot))
+            self.assertEqual((Attributes, "name", 9), (type(made), made.name, made.slot[0] + made._keys + made._values))
         for made in [*shared, SortedMap(table), *apart]:
             self.assertEqual(({one: [1]}, any(made is other for other in apart)), (made, made[one] is not values))
             made[other] = 3
@@ -282,6 +280,10 @@ class Sorted(unittest.TestCase):
         self.assertIs((again := copy.deepcopy(table)), again.name)
         self.assertEqual(({one: [1]}, [one, other], None), (source, list(table), table.clear()))
         self.assertEqual((table, {}), (table.name, table))
+        for state in ({}, {"__getstate__": lambda _: {"x": 5}, "__setstate__": lambda table, x: vars(table).update(x)}):
+            vars(table := type("Kind", (SortedMap,), {"__setattr__": None, **state})(source))["x"] = 5
+            made = table.copy(), copy.copy(table), table | {}, copy.deepcopy(table)
+            self.assertEqual(4 * [(source, {"x": 5})], [(one, vars(one)) for one in made])
         # Of version 1.5.0, by protocol 0, which makes the map by object.__new__.
         old = b"ccopy_reg\n_reconstructor\n(cconst_oid.sorted_map\nSortedMap\nc__builtin__\nobject\nNtR(N(dV_values\n("
         old += b"dcconst_oid._native\nrestored\n(c_codecs\nencode\n(VU\nVlatin1\ntRtRI1\nsstb."
@@ -340,7 +342,22 @@ class Sorted(unittest.TestCase):
             wanted = [outcome(order, kind=Model) for order in itertools.permutations(calls)]
             for kind, ends in (ENDS if len(called) == 3 else GARBAGE).items():
                 self.assertIn(outcome(calls, *ends), wanted, (called, kind))
+        for ends in GARBAGE.values():  # which takes a wrong key out of its dict
+            given = {type("Key", (), {})(): 1}
+            calls = (0, lambda table, *_: repr(error_of(table.update, given))), (1, lambda *_: given.clear())
+            self.assertIn(outcome(calls, *ends)[0][0][:9], ("TypeError", "None"))
         self.assertEqual([], errors)
+
+    def test_a_reading_is_of_one_moment(self):
+        """It runs no code of Python once it has begun: functions change the map where they are called and return."""
+        reads = [dict, sorted, SortedMap.fromkeys, repr, copy.copy, OwnMap.copy, lambda table: None in table.values()]
+        reads += [lambda table: {**table}, lambda table: [*table.items()], lambda table: [*reversed(table.values())]]
+        for kind, read in itertools.product((SortedMap, OwnMap), [*reads, SortedMap(zip(KEYS, KEYS)).__eq__]):
+            table, key = kind(zip(KEYS, KEYS)), ObjectIdentifier("2.9")
+            sys.setprofile(lambda *_: (SortedMap.update(table, {key: 1}), SortedMap.pop(table, key)))
+            found = error_of(read, table)
+            sys.setprofile(None)
+            self.assertIs(found, None, read)
 
     def test_threads_and_signals_change_a_map(self):
         """Each thread, and a handler of signals, has keys of its own, which are there until it removes them."""

@@ -37,7 +37,7 @@ def uses() -> None:
 
     key: dict[ObjectIdentifier, str] = {oid: "name", under: "another"}
     table, below = assert_type(SortedMap(key), SortedMap[str]), {under.child(True): "name"}
-    assert_type((SortedMap([(oid, 1)]), SortedMap(below)), tuple[SortedMap[int], SortedMap[str]])
+    assert_type((SortedMap[int]([(oid, True)]), SortedMap(below)), tuple[SortedMap[int], SortedMap[str]])
     table.update(below)
     assert_type((table | below, table.copy()), tuple[SortedMap[str], SortedMap[str]])
     table |= [(oid, "name")]

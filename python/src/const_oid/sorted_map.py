@@ -1,8 +1,12 @@
 """A mapping that is sorted by arcs."""
 
 import copy
-from collections.abc import ItemsView, Iterable, Iterator, KeysView, Mapping, MutableMapping, Reversible, ValuesView
+import copyreg
+from collections.abc import Callable, ItemsView, Iterable, Iterator, KeysView, Mapping, MutableMapping, ValuesView
+from functools import partial
+from itertools import chain
 from reprlib import recursive_repr
+from types import SimpleNamespace
 from typing import Any, Self, TypeVar, cast
 
 from ._native import ObjectIdentifier, Table
@@ -45,7 +49,7 @@ class SortedMap(Table[Value], MutableMapping[ObjectIdentifier, Value]):
         SortedMap({ObjectIdentifier('2.5'): 1})
         """
         made = cast("SortedMap[Other]", cls())
-        for key in keys:
+        for key in [*keys]:
             made[key] = value
         return made
 
@@ -55,7 +59,7 @@ class SortedMap(Table[Value], MutableMapping[ObjectIdentifier, Value]):
         >>> list(reversed(SortedMap.fromkeys([ObjectIdentifier("2.5")]).keys()))
         [ObjectIdentifier('2.5')]
         """
-        return _Keys(self)
+        return _view(_Keys(self), super().__len__, super().__iter__, super().__reversed__)
 
     def values(self) -> "_Values[Value]":
         """The values in the order of keys.
@@ -63,7 +67,7 @@ class SortedMap(Table[Value], MutableMapping[ObjectIdentifier, Value]):
         >>> list(SortedMap.fromkeys([ObjectIdentifier("2.5")], 1).values())
         [1]
         """
-        return _Values(self)
+        return _view(_Values(self), super().__len__, partial(self._walk, 1), partial(self._walk, 4))
 
     def items(self) -> "_Items[Value]":
         """The entries in the order of keys.
@@ -71,15 +75,15 @@ class SortedMap(Table[Value], MutableMapping[ObjectIdentifier, Value]):
         >>> list(SortedMap.fromkeys([ObjectIdentifier("2.5")], 1).items())
         [(ObjectIdentifier('2.5'), 1)]
         """
-        return _Items(self)
+        return _view(_Items(self), super().__len__, partial(self._walk, 2), partial(self._walk, 5))
 
     def __eq__(self, other: object) -> bool:
         if not isinstance(other, Mapping):
             return NotImplemented
-        if len(self) != len(other) or False in [isinstance(key, ObjectIdentifier) for key in other]:
+        if len(self) != len(other) or False in [issubclass(type(key), ObjectIdentifier) for key in [*other]]:
             return False
         ours, others = self._flat(), SortedMap(other)._flat()
-        return ours[1::2] == others[1::2] and all(map(ObjectIdentifier.__eq__, ours[::2], others[::2]))
+        return all(map(ObjectIdentifier.__eq__, ours[::2], others[::2])) and ours[1::2] == others[1::2]
 
     def __or__(self, other: Mapping[Key, Value]) -> Self:
         return self.copy().__ior__(other) if isinstance(other, Mapping) else NotImplemented
@@ -97,42 +101,60 @@ class SortedMap(Table[Value], MutableMapping[ObjectIdentifier, Value]):
         entries = ", ".join(map("{!r}: {!r}".format, flat[::2], flat[1::2]))
         return f"{type(self).__name__}({{{entries}}})"
 
-    def __getstate__(self) -> tuple[dict[str, Any] | None, dict[str, Any]]:
-        """For copies and pickles: keys and values in turn, and the attributes of a subclass."""
-        state = cast(Any, super()).__getstate__()
+    def _flat(self) -> list[Any]:
+        """All keys and values in turn, as of one moment."""
+        return [*chain.from_iterable([*SortedMap.items(self)])]
+
+    def __getstate__(self) -> Any:
+        return cast(Any, super()).__getstate__()  # by that of object, __reduce_ex__ would take no map
+
+    def __reduce_ex__(self, protocol: Any) -> Any:
+        """As of a dict: entries are no part of the state, which a subclass may make and take by methods of its own."""
+        parts: Any = super().__reduce_ex__(max(2, protocol))
+        return (*parts[:4], iter([*SortedMap.items(self)])) if parts[4:] == (None,) else parts
+
+    def __copy__(self) -> Self:
+        reductor: Any = copyreg.dispatch_table.get(type(self))
+        parts = reductor(self) if reductor else self.__reduce_ex__(4)
+        source: Any = SimpleNamespace(__reduce_ex__=lambda _: parts[:3])
+        made = self if isinstance(parts, str) else cast(Self, copy.copy(source))
+        Table.update(made, self if len(parts) == 5 else ())  # which calls no __setitem__ of a subclass
+        return made
+
+    def __setstate__(self, state: Any) -> None:
         attributes, slots = state if isinstance(state, tuple) else (state, {})
-        return attributes, {**slots, "_values": self._flat()}
-
-    def __setstate__(self, state: tuple[dict[str, Any] | None, dict[str, Any]]) -> None:
-        attributes, slots = state
-        entries = slots["_values"]  # in older pickles a dict
-        Table.__init__(self, entries if isinstance(entries, dict) else zip(entries[::2], entries[1::2]))
-        for name, value in {**(attributes or {}), **slots}.items():
-            if name not in ("_values", "_keys"):  # the latter of older pickles
-                setattr(self, name, value)
+        if "_values" in slots and not hasattr(type(self), "_values"):  # a pickle of a version before 1.6
+            Table.__init__(self, slots.pop("_values"))
+            slots.pop("_keys", None)
+        if attributes:
+            vars(self).update(attributes)
+        for name, value in slots.items():
+            setattr(self, name, value)
 
 
-class _View(Reversible[Other]):
-    """What walks in both directions: over keys, values or entries."""
-
-    __slots__ = ()
-    _mapping: SortedMap[Any]
-    _way: int
-
-    def __iter__(self) -> Iterator[Other]:
-        return self._mapping._walk(self._way)
-
-    def __reversed__(self) -> Iterator[Other]:
-        return self._mapping._walk(self._way + 3)
+# The methods of a view are those of its map, in C: no code of Python runs between two steps of list(view).
+_METHODS = "__len__", "__iter__", "__reversed__"
 
 
-class _Keys(_View[ObjectIdentifier], KeysView[ObjectIdentifier]):
-    __slots__, _way = (), 0
+class _Keys(KeysView[ObjectIdentifier]):
+    __slots__ = _METHODS
+    __reversed__: Callable[[], Iterator[ObjectIdentifier]]
 
 
-class _Values(_View[Value], ValuesView[Value]):
-    __slots__, _way = (), 1
+class _Values(ValuesView[Value]):
+    __slots__ = _METHODS
+    __reversed__: Callable[[], Iterator[Value]]
+
+    def __contains__(self, value: object) -> bool:
+        return value in [*self]
 
 
-class _Items(_View[tuple[ObjectIdentifier, Value]], ItemsView[ObjectIdentifier, Value]):
-    __slots__, _way = (), 2
+class _Items(ItemsView[ObjectIdentifier, Value]):
+    __slots__ = _METHODS
+    __reversed__: Callable[[], Iterator[tuple[ObjectIdentifier, Value]]]
+
+
+def _view(view: Other, *methods: Any) -> Other:
+    for name, method in zip(_METHODS, methods, strict=True):
+        setattr(view, name, method)
+    return view
