@@ -92,7 +92,7 @@ OF_OIDS = {"oid": [names.name_of, names.names_of, names.display], "prefix": [OID
     TABLE.nearest, TABLE.next_after, TABLE.subtree, TABLE.get, TABLE.__getitem__, TABLE.__delitem__, TABLE.__contains__,
     *(lambda key, kind=kind: TABLE.update(kind({OID: 1, key: 1})) for kind in (dict, dict.items, collections.ChainMap)),
     lambda key: SortedMap({key: 1}), lambda key: TABLE.pop(key, None), lambda key: TABLE.setdefault(key, 1),
-    lambda key: TABLE.__setstate__((None, {"_values": {key: 1}}))]}
+    lambda key: TABLE.__setstate__((None, {"_values": [OID, 1, key, 1]}))]}
 
 # Errors of Python: their type, what they say if it is of this package, the call and its inputs.
 REJECTED = [
