@@ -787,8 +787,6 @@ static __attribute__((noinline)) PyObject *walk_on(Walk *walk) {
     walk->at = walk->step == 1 ? 0 : part->count - 1;
     walk->end = walk->at + part->count * walk->step;
     walk->left -= part->count;
-    const uint32_t *at = &part->indices[walk->at];
-    for (int left = part->count; __builtin_prefetch(tree->entries[*at].key), --left;) at += (int)walk->step;
     return walk_next((PyObject *)walk);
 }
 
