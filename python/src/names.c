@@ -54,9 +54,9 @@ static PyObject *parse(PyObject *type, PyObject *text) {
     if (!bytes) return NULL;
     const_oid_octets name = {NULL, 0};
     const char *start = PyBytes_AsString(bytes), *end = start + PyBytes_Size(bytes);
-    while (start < end && const_oid_is_blank(end[-1])) end--;
-    while (start < end && const_oid_is_blank(*start)) start++;
-    start += const_oid_prefix_len(start, (size_t)(end - start));
+    while (start < end && const_oid_internal_is_blank(end[-1])) end--;
+    while (start < end && const_oid_internal_is_blank(*start)) start++;
+    start += const_oid_internal_prefix_len(start, (size_t)(end - start));
     const char *rest = (end - start < UINT8_MAX ? end : start + UINT8_MAX) + 1;
     while (!name.len && --rest > start) {
         if (rest == end || *rest == '.') name = const_oid_from_part(start, (size_t)(rest - start));

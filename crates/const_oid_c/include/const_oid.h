@@ -42,7 +42,7 @@
 #ifndef CONST_OID_H
 #define CONST_OID_H
 
-#include <stddef.h> /* size_t */
+#include <stddef.h> /* size_t, NULL */
 #include <stdint.h> /* uint8_t, uint32_t */
 
 #ifdef __cplusplus
@@ -77,14 +77,18 @@ extern "C" {
 #define CONST_OID_NODISCARD
 #endif
 
-/* A function and an array of the headers. From C++17 on they are inline, so a module can export them. Arrays are
- * constexpr, since g++ 14 exports others as zeros. */
-#ifdef __cpp_inline_variables
-#define CONST_OID_INLINE inline
-#define CONST_OID_TABLE inline constexpr
-#else
+/* A function and an array of the headers. From C++17 on they are inline, so a module can export them, and hidden, since
+ * another shared library may have another version. Arrays are constexpr, since g++ 14 exports others as zeros. */
+#ifndef __cpp_inline_variables
 #define CONST_OID_INLINE static __inline
 #define CONST_OID_TABLE static
+#else
+#if defined(__GNUC__) && !defined(_WIN32) && !defined(__CYGWIN__)
+#define CONST_OID_INLINE inline __attribute__((__visibility__("hidden")))
+#else
+#define CONST_OID_INLINE inline
+#endif
+#define CONST_OID_TABLE CONST_OID_INLINE constexpr
 #endif
 
 /* The arguments, counted from 1, that are an array that the function reads, or writes, and how many items it has. gcc,

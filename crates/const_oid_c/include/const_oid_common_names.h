@@ -10,6 +10,13 @@
 
 #include "const_oid_names.h"
 
+/* Null without a warning. */
+#if defined(__cplusplus) && __cplusplus >= 201103L
+#define CONST_OID_NULL nullptr
+#else
+#define CONST_OID_NULL NULL
+#endif
+
 #define CONST_OID_COMMON_NAMES_COUNT 4502
 
 /* The octets of the entries, and their null-terminated names, in parts of at most 509. */
@@ -1220,7 +1227,7 @@ CONST_OID_TABLE const uint8_t const_oid_common_bytes[][512] = {
     "\x67\x81\x0C\x01\x02\x03" "\x67\x81\x0C\x01\x03" "\x67\x81\x0C\x01\x04" "\x67\x81\x0C\x01\x04\x01"
     "\x67\x81\x0C\x01\x05" "\x67\x81\x0C\x01\x05\x01" "\x67\x81\x0C\x01\x05\x02" "\x67\x81\x0C\x01\x05\x03"
     "\x67\x81\x0C\x01\x05\x04" "\x67\x81\x0C\x01\x1F" "\x67\x81\x0C\x02\x01" "\x67\x81\x0C\x03" "\x67\x81\x0C\x03\x01"
-    "\x67\x81\x0C\x29" "\x67\x81\x0C\x2A"
+    "\x67\x81\x0C\x29" "\x67\x81\x0C\x2A" ""
 };
 
 CONST_OID_TABLE const char const_oid_common_texts[][512] = {
@@ -2193,7 +2200,7 @@ CONST_OID_TABLE const char const_oid_common_texts[][512] = {
     "code-signing\0" "smime-baseline\0" "mailbox-validated\0" "smime-organization-validated\0" "sponsor-validated\0"
     "smime-individual-validated\0" "cabf-TorServiceDescriptor\0" "test-certificate\0" "certificate-extensions\0"
     "cabf-organization-identifier\0" "cabfOrganizationIdentifier\0" "cabf-caSigningNonce\0"
-    "cabf-applicantSigningNonce\0"
+    "cabf-applicantSigningNonce\0" "\0"
 };
 
 /* An entry: where its name and its octets are, at 512 times the index of their part, and their lengths. */
@@ -2203,7 +2210,7 @@ typedef struct const_oid_common_entry {
     uint8_t name_len, len;
 } const_oid_common_entry;
 
-CONST_OID_TABLE const const_oid_common_entry const_oid_common_entries[CONST_OID_COMMON_NAMES_COUNT] = {
+CONST_OID_TABLE const const_oid_common_entry const_oid_common_entries[CONST_OID_COMMON_NAMES_COUNT + 1] = {
     {0, 0, 11, 1}, {12, 1, 16, 8}, {29, 1, 16, 8}, {46, 9, 16, 8}, {63, 9, 16, 8}, {80, 17, 16, 8}, {97, 17, 16, 8},
     {114, 25, 16, 8}, {131, 25, 16, 8}, {148, 33, 16, 8}, {165, 33, 16, 8}, {182, 41, 16, 8}, {199, 41, 16, 8},
     {216, 49, 17, 8}, {234, 49, 17, 8}, {252, 57, 16, 8}, {269, 57, 16, 8}, {286, 65, 16, 8}, {303, 65, 16, 8},
@@ -3138,10 +3145,11 @@ CONST_OID_TABLE const const_oid_common_entry const_oid_common_entries[CONST_OID_
     {85060, 27784, 21, 6}, {85082, 27790, 31, 5}, {85114, 27790, 34, 5}, {85149, 27795, 25, 5}, {85175, 27800, 12, 6},
     {85188, 27806, 14, 5}, {85203, 27811, 17, 6}, {85221, 27817, 28, 6}, {85250, 27823, 17, 6}, {85268, 27829, 26, 6},
     {85295, 27835, 25, 5}, {85321, 27840, 16, 5}, {85338, 27845, 22, 4}, {85361, 27849, 28, 5}, {85390, 27849, 26, 5},
-    {85417, 27854, 19, 4}, {85437, 27858, 26, 4},
+    {85417, 27854, 19, 4}, {85437, 27858, 26, 4}, {85464, 27862, 0, 0},
 };
 
-/* The name of the entry at an index, and its octets. */
+/* The name of the entry at an index, and its octets. An index must be below CONST_OID_COMMON_NAMES_COUNT, at which
+ * are an empty name and no octets. */
 CONST_OID_NODISCARD CONST_OID_INLINE const char *const_oid_common_name(size_t index) {
     const uint32_t at = const_oid_common_entries[index].name;
     return const_oid_common_texts[at / 512] + at % 512;
@@ -3796,16 +3804,16 @@ CONST_OID_TABLE const uint16_t const_oid_common_octets_by_hash[] = {
 };
 
 /* The index of the first entry with a name or with octets, of this hash. */
-CONST_OID_INLINE size_t const_oid_common_find_name(const char *name, size_t len, uint32_t hash) {
-    size_t slot = const_oid_slot(hash, 6190), index;
+CONST_OID_INLINE size_t const_oid_internal_common_find_name(const char *name, size_t len, uint32_t hash) {
+    size_t slot = const_oid_internal_slot(hash, 6190), index;
     do index = const_oid_common_names_by_hash[slot++];
     while (index < CONST_OID_COMMON_NAMES_COUNT && (const_oid_common_entries[index].name_len != len
-        || !const_oid_is_same_name(const_oid_common_name(index), name, len)));
+        || !const_oid_internal_is_same_name(const_oid_common_name(index), name, len)));
     return index;
 }
 
-CONST_OID_INLINE size_t const_oid_common_find_octets(const uint8_t *octets, size_t len, uint32_t hash) {
-    size_t slot = const_oid_slot(hash, 6190), index;
+CONST_OID_INLINE size_t const_oid_internal_common_find_octets(const uint8_t *octets, size_t len, uint32_t hash) {
+    size_t slot = const_oid_internal_slot(hash, 6190), index;
     do index = const_oid_common_octets_by_hash[slot++];
     while (index < CONST_OID_COMMON_NAMES_COUNT && (const_oid_common_entries[index].len != len || len == 0
         || CONST_OID_DIFFER(const_oid_common_octets(index).octets, octets, len)));
@@ -3815,56 +3823,55 @@ CONST_OID_INLINE size_t const_oid_common_find_octets(const uint8_t *octets, size
 /* The index of the first entry of the table that has a name, which is null-terminated, whatever the case of its
  * ASCII letters. CONST_OID_COMMON_NAMES_COUNT if there is none. */
 CONST_OID_NODISCARD CONST_OID_NONNULL(1) CONST_OID_INLINE size_t const_oid_common_by_name(const char *name) {
-    const size_t len = const_oid_name_len(name);
-    return const_oid_common_find_name(name, len, const_oid_name_hash(name, len));
+    const size_t len = const_oid_internal_name_len(name);
+    return const_oid_internal_common_find_name(name, len, const_oid_internal_name_hash(name, len));
 }
 
 /* The index of the first entry of an identifier, of its contents octets. CONST_OID_COMMON_NAMES_COUNT if there is none, as for
  * invalid octets. */
 CONST_OID_NODISCARD CONST_OID_READS(1, 2) CONST_OID_INLINE size_t const_oid_common_name_of(
     const uint8_t *octets, size_t len) {
-    return const_oid_common_find_octets(octets, len, const_oid_hash(octets, len, 0));
+    return const_oid_internal_common_find_octets(octets, len, const_oid_internal_hash(octets, len, 0));
 }
 
 /* The octets of the first entry with a name of this length, by const_oid_by_name or else here. Null with length 0 if
  * none. */
 CONST_OID_NODISCARD CONST_OID_READS(1, 2) CONST_OID_INLINE const_oid_octets const_oid_from_part(
     const char *name, size_t len) {
-    static const_oid_octets none; /* null, in each C and C++ without a warning */
-    const uint32_t hash = const_oid_name_hash(name, len);
-    size_t index = const_oid_find_name(name, len, hash);
+    const const_oid_octets none = {CONST_OID_NULL, 0};
+    const uint32_t hash = const_oid_internal_name_hash(name, len);
+    size_t index = const_oid_internal_find_name(name, len, hash);
     if (index < CONST_OID_NAMES_COUNT) return const_oid_name_octets[index];
-    index = const_oid_common_find_name(name, len, hash);
+    index = const_oid_internal_common_find_name(name, len, hash);
     return index < CONST_OID_COMMON_NAMES_COUNT ? const_oid_common_octets(index) : none;
 }
 
 /* The same of a null-terminated name. */
 CONST_OID_NODISCARD CONST_OID_NONNULL(1) CONST_OID_INLINE const_oid_octets const_oid_from_name(const char *name) {
-    return const_oid_from_part(name, const_oid_name_len(name));
+    return const_oid_from_part(name, const_oid_internal_name_len(name));
 }
 
 /* The first name of contents octets, by const_oid_name_of or else here. Null if none, as for invalid octets. */
 CONST_OID_NODISCARD CONST_OID_READS(1, 2) CONST_OID_INLINE const char *const_oid_to_name(
     const uint8_t *octets, size_t len) {
-    static const char *none;
-    const uint32_t hash = const_oid_hash(octets, len, 0);
-    size_t index = const_oid_find_octets(octets, len, hash);
+    const uint32_t hash = const_oid_internal_hash(octets, len, 0);
+    size_t index = const_oid_internal_find_octets(octets, len, hash);
     if (index < CONST_OID_NAMES_COUNT) return const_oid_names[index];
-    index = const_oid_common_find_octets(octets, len, hash);
-    return index < CONST_OID_COMMON_NAMES_COUNT ? const_oid_common_name(index) : none;
+    index = const_oid_internal_common_find_octets(octets, len, hash);
+    return index < CONST_OID_COMMON_NAMES_COUNT ? const_oid_common_name(index) : CONST_OID_NULL;
 }
 
 /* Whether a byte is ASCII whitespace. */
-CONST_OID_INLINE int const_oid_is_blank(char byte) {
+CONST_OID_INLINE int const_oid_internal_is_blank(char byte) {
     return byte == ' ' || byte == '\t' || byte == '\n' || byte == '\f' || byte == '\r';
 }
 
 /* How many bytes the prefix has that a text begins with. */
-CONST_OID_INLINE size_t const_oid_prefix_len(const char *text, size_t len) {
+CONST_OID_INLINE size_t const_oid_internal_prefix_len(const char *text, size_t len) {
     size_t i = 0;
     if (len >= 1 && text[0] == '.') return 1;
-    if (len >= 4 && const_oid_is_same_name(text, "OID.", 4)) return 4;
-    if (len >= 8 && const_oid_is_same_name(text, "urn:oid:", 8)) return 8;
+    if (len >= 4 && const_oid_internal_is_same_name(text, "OID.", 4)) return 4;
+    if (len >= 8 && const_oid_internal_is_same_name(text, "urn:oid:", 8)) return 8;
     while (i < len && (((text[i] | ' ') >= 'a' && (text[i] | ' ') <= 'z')
         || (i > 0 && ((text[i] >= '0' && text[i] <= '9') || text[i] == '-')))) i++;
     return i > 0 && len - i >= 2 && text[i] == ':' && text[i + 1] == ':' ? i + 2 : 0;
@@ -3872,7 +3879,7 @@ CONST_OID_INLINE size_t const_oid_prefix_len(const char *text, size_t len) {
 
 /* Counts the octets of a name and of arcs, each after a dot, or returns the error. If there is room, which begins with
  * the last octet of the name, writes those of arcs after it. */
-CONST_OID_INLINE const_oid_status const_oid_put_arcs(
+CONST_OID_INLINE const_oid_status const_oid_internal_put_arcs(
     const_oid_octets name, const char *text, size_t text_len, uint8_t *last, size_t room) {
     const uint8_t *const bytes = CONST_OID_BYTES(text);
     const_oid_status status = {CONST_OID_OK, 0, 0};
@@ -3907,21 +3914,21 @@ CONST_OID_INLINE const_oid_status const_oid_put_arcs(
 }
 
 /* Writes the contents octets of what people type and paste: dotted text, a name, or a name and arcs, as in sysUpTime.0.
- * Around it may be ASCII whitespace, and before it a prefix: OID. or urn:oid:, in any case, a dot, as of `snmpwalk
- * -On`, or a module and ::, which is a letter, and then letters, digits and hyphens, and is not looked up. A name is
- * what const_oid_from_name finds: all of the text is tried, and then what is before each dot, from the last one on.
+ * Around it may be ASCII whitespace: space, \t, \n, \f and \r, but not \v. Before it may be a prefix: OID. or
+ * urn:oid:, in any case, a dot, as of `snmpwalk -On`, or a module and ::, which is a letter, and then letters, digits
+ * and hyphens, and is not looked up. A name is what const_oid_from_name finds: all of the text is tried, and then what
+ * is before each dot, from the last one on.
  *
  * Errors are those of const_oid_from_text, of the text after the prefix, with the arcs of a name in its place: `len` is
  * the index of the wrong component there. */
 CONST_OID_NODISCARD CONST_OID_READS(1, 2) CONST_OID_WRITES(3, 4) CONST_OID_INLINE const_oid_status const_oid_parse(
     const char *text, size_t text_len, uint8_t *CONST_OID_RESTRICT out, size_t out_len) {
-    static const_oid_octets none;
-    const_oid_octets name = none;
+    const_oid_octets name = {CONST_OID_NULL, 0};
     const_oid_status status;
     size_t end, i;
-    while (text_len > 0 && const_oid_is_blank(text[text_len - 1])) text_len--;
-    for (; text_len > 0 && const_oid_is_blank(text[0]); text_len--) text++;
-    for (i = const_oid_prefix_len(text, text_len); i > 0; i--, text_len--) text++;
+    while (text_len > 0 && const_oid_internal_is_blank(text[text_len - 1])) text_len--;
+    for (; text_len > 0 && const_oid_internal_is_blank(text[0]); text_len--) text++;
+    for (i = const_oid_internal_prefix_len(text, text_len); i > 0; i--, text_len--) text++;
     status = const_oid_from_text(text, text_len, out, out_len);
     if (status.code == CONST_OID_OK || status.code == CONST_OID_OUTPUT_TOO_SHORT || status.code == CONST_OID_NOT_UTF8)
         return status;
@@ -3930,19 +3937,18 @@ CONST_OID_NODISCARD CONST_OID_READS(1, 2) CONST_OID_WRITES(3, 4) CONST_OID_INLIN
         if (name.len > 0) break;
     }
     if (end == 0) return status;
-    status = const_oid_put_arcs(name, text + end, text_len - end, out, 0);
+    status = const_oid_internal_put_arcs(name, text + end, text_len - end, out, 0);
     if (status.code == CONST_OID_OK && status.len > out_len) status.code = CONST_OID_OUTPUT_TOO_SHORT;
     if (status.code != CONST_OID_OK) return status;
     for (i = 0; i < name.len; i++) out[i] = name.octets[i];
-    return const_oid_put_arcs(name, text + end, text_len - end, out + name.len - 1, out_len - name.len + 1);
+    return const_oid_internal_put_arcs(name, text + end, text_len - end, out + name.len - 1, out_len - name.len + 1);
 }
 
 /* The first name of octets if it leads back to them, or null. */
-CONST_OID_INLINE const char *const_oid_name_back(const uint8_t *octets, size_t len) {
-    static const char *none;
+CONST_OID_INLINE const char *const_oid_internal_name_back(const uint8_t *octets, size_t len) {
     const char *name = const_oid_to_name(octets, len);
     const const_oid_octets found = const_oid_from_name(name ? name : "");
-    return found.len == len && !CONST_OID_DIFFER(found.octets, octets, len) ? name : none;
+    return found.len == len && !CONST_OID_DIFFER(found.octets, octets, len) ? name : CONST_OID_NULL;
 }
 
 /* Writes the first name of contents octets, or that of their longest prefix with one, and the arcs after it, or else
@@ -3956,9 +3962,9 @@ CONST_OID_NODISCARD CONST_OID_READS(1, 2) CONST_OID_WRITES(3, 4) CONST_OID_INLIN
     uint8_t arc[6] = {0}; /* and its text, of 0.0 and it */
     char text[14];
     if (status.code != CONST_OID_OUTPUT_TOO_SHORT) return status;
-    do name = const_oid_name_back(octets, at);
+    do name = const_oid_internal_name_back(octets, at);
     while (!name && --at > 0);
-    if (name) status.len += const_oid_name_len(name) - const_oid_to_text(octets, at, out, 0).len;
+    if (name) status.len = status.len + const_oid_internal_name_len(name) - const_oid_to_text(octets, at, out, 0).len;
     if (status.len >= out_len) return status;
     out[status.len] = 0;
     if (!name) return const_oid_to_text(octets, len, out, status.len);

@@ -5,14 +5,17 @@
  *   rfc5912::ID_EC_PUBLIC_KEY: a macro with its contents octets as a string literal. It costs nothing where it
  *   is not used. CONST_OID_OCTETS gives its pointer and its length: two arguments of a call, or the initializer
  *   of a const_oid_octets. It takes a string literal alone: for an array of your own, use CONST_OID_ARRAY.
- *   A constant is no text: in 227 of the 1492, strlen and std::string stop at an octet that is zero. And
- *   sizeof counts one octet too many, the zero that ends the literal, which is another identifier.
- * - The entries in the order of arcs: const_oid_name_octets is a list that const_oid_check_sorted accepts, and
- *   const_oid_names has the null-terminated name of each of its items, at the same index. An identifier may
- *   have several names. They are adjacent, in the order of the table, and const_oid_find and const_oid_nearest
- *   return the first.
+ *   A constant is no text: strlen and std::string stop at an octet that is zero. And sizeof counts one octet too
+ *   many, the zero that ends the literal, which is another identifier.
+ * - The entries in the order of arcs: const_oid_name_octets is a list of CONST_OID_NAMES_COUNT items that
+ *   const_oid_check_sorted accepts, and const_oid_names has the null-terminated name of each, at the same index.
+ *   An identifier may have several names. They are adjacent, in the order of the table, and const_oid_find and
+ *   const_oid_nearest return the first.
  * - const_oid_by_name and const_oid_name_of, which return the index of the entry with a name or with octets. id-mod,
  *   id-alg and hashAlgs have two identifiers, of which const_oid_by_name returns the first in const-oid's order.
+ *
+ * An index must be below CONST_OID_NAMES_COUNT, at which are an empty name and no octets. Functions whose names begin
+ * with const_oid_internal_ are not for you: they may go.
  *
  * The arrays are static, but inline from C++17 on: each file in C that uses them has a copy of some 80 KB, or 150 if
  * its code is position-independent, so let one file use them. What is here is tested, not proved. */
@@ -2011,10 +2014,10 @@ CONST_OID_TABLE const uint8_t const_oid_name_bytes[][512] = {
     "\x67\x81\x05\x02\x11" "\x67\x81\x05\x02\x12" "\x67\x81\x05\x02\x13" "\x67\x81\x05\x03" "\x67\x81\x05\x03\x01"
     "\x67\x81\x05\x04" "\x67\x81\x05\x04\x01" "\x67\x81\x05\x06" "\x67\x81\x05\x06\x02" "\x67\x81\x05\x06\x03"
     "\x67\x81\x05\x06\x04" "\x67\x81\x05\x06\x05" "\x67\x81\x05\x06\x06" "\x67\x81\x05\x06\x07" "\x67\x81\x05\x08"
-    "\x67\x81\x05\x08\x01" "\x67\x81\x05\x08\x02" "\x67\x81\x05\x08\x03"
+    "\x67\x81\x05\x08\x01" "\x67\x81\x05\x08\x02" "\x67\x81\x05\x08\x03" ""
 };
 
-CONST_OID_TABLE const const_oid_octets const_oid_name_octets[CONST_OID_NAMES_COUNT] = {
+CONST_OID_TABLE const const_oid_octets const_oid_name_octets[CONST_OID_NAMES_COUNT + 1] = {
     {const_oid_name_bytes[0] + 0, 10}, {const_oid_name_bytes[0] + 0, 10}, {const_oid_name_bytes[0] + 10, 10},
     {const_oid_name_bytes[0] + 20, 10}, {const_oid_name_bytes[0] + 20, 10}, {const_oid_name_bytes[0] + 30, 10},
     {const_oid_name_bytes[0] + 40, 10}, {const_oid_name_bytes[0] + 40, 10}, {const_oid_name_bytes[0] + 50, 10},
@@ -2512,10 +2515,10 @@ CONST_OID_TABLE const const_oid_octets const_oid_name_octets[CONST_OID_NAMES_COU
     {const_oid_name_bytes[20] + 153, 5}, {const_oid_name_bytes[20] + 158, 5}, {const_oid_name_bytes[20] + 163, 5},
     {const_oid_name_bytes[20] + 168, 5}, {const_oid_name_bytes[20] + 173, 5}, {const_oid_name_bytes[20] + 178, 5},
     {const_oid_name_bytes[20] + 183, 4}, {const_oid_name_bytes[20] + 187, 5}, {const_oid_name_bytes[20] + 192, 5},
-    {const_oid_name_bytes[20] + 197, 5},
+    {const_oid_name_bytes[20] + 197, 5}, {const_oid_name_bytes[20] + 202, 0},
 };
 
-CONST_OID_TABLE const char *const const_oid_names[CONST_OID_NAMES_COUNT] = {
+CONST_OID_TABLE const char *const const_oid_names[CONST_OID_NAMES_COUNT + 1] = {
     "uid", "userId", "textEncodedORAddress", "mail", "RFC822Mailbox", "info", "drink", "favouriteDrink", "roomNumber",
     "photo", "userClass", "host", "manager", "documentIdentifier", "documentTitle", "documentVersion", "documentAuthor",
     "documentLocation", "homePhone", "homeTelephone", "secretary", "otherMailbox", "lastModifiedTime", "lastModifiedBy",
@@ -2811,11 +2814,11 @@ CONST_OID_TABLE const char *const const_oid_names[CONST_OID_NAMES_COUNT] = {
     "tcg-algorithm", "tcg-algorithm-null", "tcg-ce", "tcg-ce-relevantCredentials", "tcg-ce-relevantManifests",
     "tcg-ce-virtualPlatformAttestationService", "tcg-ce-migrationControllerAttestationService",
     "tcg-ce-migrationControllerRegistrationService", "tcg-ce-virtualPlatformBackupService", "tcg-kp",
-    "tcg-kp-EKCertificate", "tcg-kp-PlatformCertificate", "tcg-kp-AIKCertificate",
+    "tcg-kp-EKCertificate", "tcg-kp-PlatformCertificate", "tcg-kp-AIKCertificate", "",
 };
 
 /* The lengths of the names. */
-CONST_OID_TABLE const uint8_t const_oid_name_lens[CONST_OID_NAMES_COUNT] = {
+CONST_OID_TABLE const uint8_t const_oid_name_lens[CONST_OID_NAMES_COUNT + 1] = {
     3, 6, 20, 4, 13, 4, 5, 14, 10, 5, 9, 4, 7, 18, 13, 15, 14, 16, 9, 13, 9, 12, 16, 14, 2, 15, 7, 8, 8, 8, 9, 11, 16,
     14, 17, 13, 6, 21, 5, 20, 2, 19, 16, 20, 12, 20, 12, 10, 18, 21, 21, 17, 11, 5, 17, 9, 11, 11, 7, 8, 4, 14, 6, 15,
     9, 19, 15, 20, 17, 8, 19, 20, 8, 12, 18, 24, 4, 13, 13, 13, 14, 14, 14, 13, 11, 11, 11, 11, 11, 11, 11, 11, 11, 11,
@@ -2865,32 +2868,34 @@ CONST_OID_TABLE const uint8_t const_oid_name_lens[CONST_OID_NAMES_COUNT] = {
     22, 22, 22, 12, 12, 12, 20, 20, 20, 20, 20, 20, 21, 21, 21, 21, 21, 21, 29, 29, 29, 37, 37, 37, 37, 37, 37, 40, 40,
     40, 40, 40, 40, 4, 17, 17, 18, 10, 16, 14, 12, 3, 17, 20, 10, 20, 11, 13, 8, 11, 6, 13, 14, 12, 11, 14, 17, 16, 15,
     19, 12, 12, 13, 22, 15, 17, 27, 20, 22, 24, 27, 24, 27, 24, 17, 23, 31, 28, 28, 12, 21, 13, 18, 6, 26, 24, 40, 44,
-    45, 35, 6, 20, 26, 21,
+    45, 35, 6, 20, 26, 21, 0,
 };
 
 /* Four bytes as a number. */
-CONST_OID_INLINE uint32_t const_oid_word(const uint8_t *bytes) {
+CONST_OID_INLINE uint32_t const_oid_internal_word(const uint8_t *bytes) {
     const uint32_t last = bytes[3];
     return ((last << 8 | bytes[2]) << 8 | bytes[1]) << 8 | bytes[0];
 }
 
 /* A hash by words, of which the last four bytes are one, or all of fewer. In each byte `bits` are set. */
-CONST_OID_INLINE uint32_t const_oid_hash(const uint8_t *bytes, size_t len, uint32_t bits) {
+CONST_OID_INLINE uint32_t const_oid_internal_hash(const uint8_t *bytes, size_t len, uint32_t bits) {
+    const uint64_t factor = 2654435769u; /* so that no product overflows */
     uint32_t hash = 0, word = 0;
     size_t i;
-    for (i = 0; i + 4 < len; i += 4) hash = (hash ^ (const_oid_word(bytes + i) | bits)) * 2654435769u;
-    if (len >= 4) word = const_oid_word(bytes + len - 4);
+    for (i = 0; i + 4 < len; i += 4)
+        hash = (hash ^ (const_oid_internal_word(bytes + i) | bits)) * factor & 0xFFFFFFFFu;
+    if (len >= 4) word = const_oid_internal_word(bytes + len - 4);
     else for (i = len; i > 0; i--) word = word << 8 | bytes[i - 1];
-    return (hash ^ (word | bits)) * 2654435769u;
+    return (hash ^ (word | bits)) * factor & 0xFFFFFFFFu;
 }
 
 /* The slot of a hash among so many. */
-CONST_OID_INLINE size_t const_oid_slot(uint32_t hash, uint32_t slots) {
+CONST_OID_INLINE size_t const_oid_internal_slot(uint32_t hash, uint32_t slots) {
     return (hash >> 16) * slots >> 16;
 }
 
 /* The length of a name, and its hash in any case of its letters. */
-CONST_OID_INLINE size_t const_oid_name_len(const char *name) {
+CONST_OID_INLINE size_t const_oid_internal_name_len(const char *name) {
     size_t len = 0;
 #ifdef __GNUC__ /* Of a literal the compiler knows it. */
     if (__builtin_constant_p(__builtin_strlen(name))) return __builtin_strlen(name);
@@ -2899,21 +2904,21 @@ CONST_OID_INLINE size_t const_oid_name_len(const char *name) {
     return len + (name[len] != 0);
 }
 
-CONST_OID_INLINE uint32_t const_oid_name_hash(const char *name, size_t len) {
-    return const_oid_hash(CONST_OID_BYTES(name), len, 0x20202020u);
+CONST_OID_INLINE uint32_t const_oid_internal_name_hash(const char *name, size_t len) {
+    return const_oid_internal_hash(CONST_OID_BYTES(name), len, 0x20202020u);
 }
 
 /* Whether two characters are one letter in both cases. */
-CONST_OID_INLINE int const_oid_are_cases(char left, char right) {
+CONST_OID_INLINE int const_oid_internal_are_cases(char left, char right) {
     return (left ^ right) == ('a' ^ 'A') && (left | right) >= 'a' && (left | right) <= 'z';
 }
 
 /* Whether two names of this length are the same, without the case of their letters. */
-CONST_OID_INLINE int const_oid_is_same_name(const char *left, const char *right, size_t len) {
+CONST_OID_INLINE int const_oid_internal_is_same_name(const char *left, const char *right, size_t len) {
     const uint8_t *a = CONST_OID_BYTES(left), *b = CONST_OID_BYTES(right);
     size_t i = 0;
-    while (i + 4 <= len && const_oid_word(a + i) == const_oid_word(b + i)) i += 4;
-    while (i < len && (left[i] == right[i] || const_oid_are_cases(left[i], right[i]))) i++;
+    while (i + 4 <= len && const_oid_internal_word(a + i) == const_oid_internal_word(b + i)) i += 4;
+    while (i < len && (left[i] == right[i] || const_oid_internal_are_cases(left[i], right[i]))) i++;
     return i == len;
 }
 
@@ -3123,16 +3128,16 @@ CONST_OID_TABLE const uint16_t const_oid_octets_by_hash[] = {
 };
 
 /* The index of the first entry with a name or with octets, of this hash. */
-CONST_OID_INLINE size_t const_oid_find_name(const char *name, size_t len, uint32_t hash) {
-    size_t slot = const_oid_slot(hash, 2051), index;
+CONST_OID_INLINE size_t const_oid_internal_find_name(const char *name, size_t len, uint32_t hash) {
+    size_t slot = const_oid_internal_slot(hash, 2051), index;
     do index = const_oid_names_by_hash[slot++];
     while (index < CONST_OID_NAMES_COUNT && (const_oid_name_lens[index] != len
-        || !const_oid_is_same_name(const_oid_names[index], name, len)));
+        || !const_oid_internal_is_same_name(const_oid_names[index], name, len)));
     return index;
 }
 
-CONST_OID_INLINE size_t const_oid_find_octets(const uint8_t *octets, size_t len, uint32_t hash) {
-    size_t slot = const_oid_slot(hash, 2051), index;
+CONST_OID_INLINE size_t const_oid_internal_find_octets(const uint8_t *octets, size_t len, uint32_t hash) {
+    size_t slot = const_oid_internal_slot(hash, 2051), index;
     do index = const_oid_octets_by_hash[slot++];
     while (index < CONST_OID_NAMES_COUNT && (const_oid_name_octets[index].len != len || len == 0
         || CONST_OID_DIFFER(const_oid_name_octets[index].octets, octets, len)));
@@ -3142,14 +3147,14 @@ CONST_OID_INLINE size_t const_oid_find_octets(const uint8_t *octets, size_t len,
 /* The index of the first entry of the table that has a name, which is null-terminated, whatever the case of its
  * ASCII letters. CONST_OID_NAMES_COUNT if there is none. */
 CONST_OID_NODISCARD CONST_OID_NONNULL(1) CONST_OID_INLINE size_t const_oid_by_name(const char *name) {
-    const size_t len = const_oid_name_len(name);
-    return const_oid_find_name(name, len, const_oid_name_hash(name, len));
+    const size_t len = const_oid_internal_name_len(name);
+    return const_oid_internal_find_name(name, len, const_oid_internal_name_hash(name, len));
 }
 
 /* The index of the first entry of an identifier, of its contents octets. CONST_OID_NAMES_COUNT if there is none, as for
  * invalid octets. */
 CONST_OID_NODISCARD CONST_OID_READS(1, 2) CONST_OID_INLINE size_t const_oid_name_of(
     const uint8_t *octets, size_t len) {
-    return const_oid_find_octets(octets, len, const_oid_hash(octets, len, 0));
+    return const_oid_internal_find_octets(octets, len, const_oid_internal_hash(octets, len, 0));
 }
 #endif

@@ -1,6 +1,6 @@
 /* Compares const_oid_names.h with rust/names.tsv, of which rows.inc has a ROW(constant, arcs, name, place) for each row,
- * by arcs: the octets of each constant, the entries row by row, what is found by name and by octets, and what they are.
- * With COMMON, const_oid_common_names.h with rust/common_names.tsv. */
+ * by arcs: the octets of each constant, the entries row by row and past the last, what is found by name and by octets,
+ * and what they are. With COMMON, const_oid_common_names.h with rust/common_names.tsv. */
 #include "const_oid_common_names.h"
 #include "see.h"
 
@@ -121,7 +121,7 @@ static void find_octets_like(const_oid_octets of) {
 }
 
 static size_t slot_of(const uint8_t *octets, size_t len) {
-    return const_oid_slot(const_oid_hash(octets, len, 0), COUNT * 11 / 8);
+    return const_oid_internal_slot(const_oid_internal_hash(octets, len, 0), COUNT * 11 / 8);
 }
 
 /* Octets that are longer than a name's by so many, and begin with them, are none, even in the name's slot. */
@@ -154,6 +154,7 @@ int main(void) {
         find_octets_like(rows[i].octets);
         if (i % 99 == 0) find_longer(rows[i].octets, 256), find_longer(rows[i].octets, 65536);
     }
+    SEE(NAME(count)[0] == 0 && OCTETS(count).len == 0, count);
     SEE(NAME_OF(NULL, 0) == count && NAME_OF((const uint8_t *)"\x80", 1) == count, 0);
     SEE(BY_NAME("") == count && BY_NAME("zz") == count && BY_NAME("\xC3") == count, 0);
     return 0;

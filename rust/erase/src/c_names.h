@@ -4,14 +4,17 @@
  *   rfc5912::ID_EC_PUBLIC_KEY: a macro with its contents octets as a string literal. It costs nothing where it
  *   is not used. CONST_OID_OCTETS gives its pointer and its length: two arguments of a call, or the initializer
  *   of a const_oid_octets. It takes a string literal alone: for an array of your own, use CONST_OID_ARRAY.
- *   A constant is no text: in @ZEROS@ of the @COUNT@, strlen and std::string stop at an octet that is zero. And
- *   sizeof counts one octet too many, the zero that ends the literal, which is another identifier.
- * - The entries in the order of arcs: const_oid_name_octets is a list that const_oid_check_sorted accepts, and
- *   const_oid_names has the null-terminated name of each of its items, at the same index. An identifier may
- *   have several names. They are adjacent, in the order of the table, and const_oid_find and const_oid_nearest
- *   return the first.
+ *   A constant is no text: strlen and std::string stop at an octet that is zero. And sizeof counts one octet too
+ *   many, the zero that ends the literal, which is another identifier.
+ * - The entries in the order of arcs: const_oid_name_octets is a list of CONST_OID_NAMES_COUNT items that
+ *   const_oid_check_sorted accepts, and const_oid_names has the null-terminated name of each, at the same index.
+ *   An identifier may have several names. They are adjacent, in the order of the table, and const_oid_find and
+ *   const_oid_nearest return the first.
  * - const_oid_by_name and const_oid_name_of, which return the index of the entry with a name or with octets. id-mod,
  *   id-alg and hashAlgs have two identifiers, of which const_oid_by_name returns the first in const-oid's order.
+ *
+ * An index must be below CONST_OID_NAMES_COUNT, at which are an empty name and no octets. Functions whose names begin
+ * with const_oid_internal_ are not for you: they may go.
  *
  * The arrays are static, but inline from C++17 on: each file in C that uses them has a copy of some 80 KB, or 150 if
  * its code is position-independent, so let one file use them. What is here is tested, not proved. */
@@ -56,36 +59,38 @@ CONST_OID_NODISCARD CONST_OID_READS(1, 2) CONST_OID_READS(3, 4) CONST_OID_INLINE
 /* The octets of the entries, in parts of at most 509. */
 CONST_OID_TABLE const uint8_t const_oid_name_bytes[][512] = {@BYTES@};
 
-CONST_OID_TABLE const const_oid_octets const_oid_name_octets[CONST_OID_NAMES_COUNT] = {@OCTETS@};
+CONST_OID_TABLE const const_oid_octets const_oid_name_octets[CONST_OID_NAMES_COUNT + 1] = {@OCTETS@};
 
-CONST_OID_TABLE const char *const const_oid_names[CONST_OID_NAMES_COUNT] = {@NAMES@};
+CONST_OID_TABLE const char *const const_oid_names[CONST_OID_NAMES_COUNT + 1] = {@NAMES@};
 
 /* The lengths of the names. */
-CONST_OID_TABLE const uint8_t const_oid_name_lens[CONST_OID_NAMES_COUNT] = {@NAME_LENS@};
+CONST_OID_TABLE const uint8_t const_oid_name_lens[CONST_OID_NAMES_COUNT + 1] = {@NAME_LENS@};
 
 /* Four bytes as a number. */
-CONST_OID_INLINE uint32_t const_oid_word(const uint8_t *bytes) {
+CONST_OID_INLINE uint32_t const_oid_internal_word(const uint8_t *bytes) {
     const uint32_t last = bytes[3];
     return ((last << 8 | bytes[2]) << 8 | bytes[1]) << 8 | bytes[0];
 }
 
 /* A hash by words, of which the last four bytes are one, or all of fewer. In each byte `bits` are set. */
-CONST_OID_INLINE uint32_t const_oid_hash(const uint8_t *bytes, size_t len, uint32_t bits) {
+CONST_OID_INLINE uint32_t const_oid_internal_hash(const uint8_t *bytes, size_t len, uint32_t bits) {
+    const uint64_t factor = 2654435769u; /* so that no product overflows */
     uint32_t hash = 0, word = 0;
     size_t i;
-    for (i = 0; i + 4 < len; i += 4) hash = (hash ^ (const_oid_word(bytes + i) | bits)) * 2654435769u;
-    if (len >= 4) word = const_oid_word(bytes + len - 4);
+    for (i = 0; i + 4 < len; i += 4)
+        hash = (hash ^ (const_oid_internal_word(bytes + i) | bits)) * factor & 0xFFFFFFFFu;
+    if (len >= 4) word = const_oid_internal_word(bytes + len - 4);
     else for (i = len; i > 0; i--) word = word << 8 | bytes[i - 1];
-    return (hash ^ (word | bits)) * 2654435769u;
+    return (hash ^ (word | bits)) * factor & 0xFFFFFFFFu;
 }
 
 /* The slot of a hash among so many. */
-CONST_OID_INLINE size_t const_oid_slot(uint32_t hash, uint32_t slots) {
+CONST_OID_INLINE size_t const_oid_internal_slot(uint32_t hash, uint32_t slots) {
     return (hash >> 16) * slots >> 16;
 }
 
 /* The length of a name, and its hash in any case of its letters. */
-CONST_OID_INLINE size_t const_oid_name_len(const char *name) {
+CONST_OID_INLINE size_t const_oid_internal_name_len(const char *name) {
     size_t len = 0;
 #ifdef __GNUC__ /* Of a literal the compiler knows it. */
     if (__builtin_constant_p(__builtin_strlen(name))) return __builtin_strlen(name);
@@ -94,21 +99,21 @@ CONST_OID_INLINE size_t const_oid_name_len(const char *name) {
     return len + (name[len] != 0);
 }
 
-CONST_OID_INLINE uint32_t const_oid_name_hash(const char *name, size_t len) {
-    return const_oid_hash(CONST_OID_BYTES(name), len, 0x20202020u);
+CONST_OID_INLINE uint32_t const_oid_internal_name_hash(const char *name, size_t len) {
+    return const_oid_internal_hash(CONST_OID_BYTES(name), len, 0x20202020u);
 }
 
 /* Whether two characters are one letter in both cases. */
-CONST_OID_INLINE int const_oid_are_cases(char left, char right) {
+CONST_OID_INLINE int const_oid_internal_are_cases(char left, char right) {
     return (left ^ right) == ('a' ^ 'A') && (left | right) >= 'a' && (left | right) <= 'z';
 }
 
 /* Whether two names of this length are the same, without the case of their letters. */
-CONST_OID_INLINE int const_oid_is_same_name(const char *left, const char *right, size_t len) {
+CONST_OID_INLINE int const_oid_internal_is_same_name(const char *left, const char *right, size_t len) {
     const uint8_t *a = CONST_OID_BYTES(left), *b = CONST_OID_BYTES(right);
     size_t i = 0;
-    while (i + 4 <= len && const_oid_word(a + i) == const_oid_word(b + i)) i += 4;
-    while (i < len && (left[i] == right[i] || const_oid_are_cases(left[i], right[i]))) i++;
+    while (i + 4 <= len && const_oid_internal_word(a + i) == const_oid_internal_word(b + i)) i += 4;
+    while (i < len && (left[i] == right[i] || const_oid_internal_are_cases(left[i], right[i]))) i++;
     return i == len;
 }
 

@@ -14,19 +14,19 @@ const FOR_COMMON: [(&str, &str); 6] = [
 ];
 
 /// A header with marks, filled with the rows of a table. Those of an identifier or of a name stay in the order of the
-/// table.
+/// table. After the last entry are an empty name and no octets.
 pub fn header(marked: &str, table: &str) -> String {
     let rows = rows(table);
     let mut sorted: Vec<(usize, &Row)> = rows.iter().enumerate().collect();
     sorted.sort_by(|a, b| a.1.arcs.cmp(&b.1.arcs));
     let place = |row| sorted.iter().position(|entry| entry.0 == row).unwrap();
-    let encoded = Vec::from_iter(sorted.iter().map(|entry| encoding(&entry.1.arcs)));
+    let encoded = Vec::from_iter(sorted.iter().map(|entry| encoding(&entry.1.arcs)).chain([Vec::new()]));
     let (bytes, octets_at) = parts(encoded.iter().map(|octets| (escaped(octets), octets.len())));
-    let names = sorted.iter().map(|entry| entry.1.name);
+    let names = sorted.iter().map(|entry| entry.1.name).chain([""]);
     let (texts, names_at) =
         parts(names.clone().map(|name| (name.escape_default().to_string() + "\\0", name.len() + 1)));
     let by_name = rows.iter().enumerate().map(|(row, of)| (hash(of.name.as_bytes(), 32), place(row)));
-    let by_octets = encoded.iter().enumerate().map(|(index, octets)| (hash(octets, 0), index));
+    let by_octets = encoded.iter().take(rows.len()).enumerate().map(|(index, octets)| (hash(octets, 0), index));
     let constant = |row: &Row| {
         let name = format!("CONST_OID_{}_{}", row.module.to_uppercase(), row.constant);
         format!("#define {name} \"{}\"\n", escaped(&encoding(&row.arcs)))
@@ -34,23 +34,21 @@ pub fn header(marked: &str, table: &str) -> String {
     let item = |(at, octets): (&usize, &Vec<u8>)| {
         format!("{{const_oid_name_bytes[{}] + {}, {}}},", at / PART, at % PART, octets.len())
     };
-    let entry = |index: usize| {
-        let lens = (sorted[index].1.name.len(), encoded[index].len());
-        format!("{{{}, {}, {}, {}}},", names_at[index], octets_at[index], lens.0, lens.1)
+    let entry = |(index, name): (usize, &str)| {
+        format!("{{{}, {}, {}, {}}},", names_at[index], octets_at[index], name.len(), encoded[index].len())
     };
     let common = |text: String, (of, by): (&str, &str)| text.replace(of, by);
-    let marks: [(&str, String); 14] = [
+    let marks: [(&str, String); 13] = [
         ("@SEARCHES@\n", SEARCHES.replace("@OF@", "")),
         ("@COMMON_SEARCHES@\n", FOR_COMMON.into_iter().fold(SEARCHES.into(), common)),
         ("@COUNT@", rows.len().to_string()),
-        ("@ZEROS@", encoded.iter().filter(|octets| octets.contains(&0)).count().to_string()),
         ("@CONSTANTS@", rows.iter().map(constant).collect()),
         ("@BYTES@", bytes),
         ("@TEXTS@", texts),
         ("@OCTETS@", lines(octets_at.iter().zip(&encoded).map(item))),
         ("@NAMES@", lines(names.clone().map(|name| format!("{name:?},")))),
-        ("@NAME_LENS@", lines(names.map(|name| format!("{},", name.len())))),
-        ("@ENTRIES@", lines((0..rows.len()).map(entry))),
+        ("@NAME_LENS@", lines(names.clone().map(|name| format!("{},", name.len())))),
+        ("@ENTRIES@", lines(names.enumerate().map(entry))),
         ("@SLOTS@", slots(rows.len()).to_string()),
         ("@BY_NAME@", by_hash(by_name, rows.len())),
         ("@BY_OCTETS@", by_hash(by_octets, rows.len())),
