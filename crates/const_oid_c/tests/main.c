@@ -172,6 +172,9 @@ static const char *const orders[] = {"no order", "less", "equal", "greater"};
 /* Says how two identifiers compare, in one of these words. */
 static void pair_row(comparison *compared_by, const char *const *words) {
     const_oid_status status = compared_by(OCTETS(0), OCTETS(1));
+    if (compared_by == const_oid_eq) SEE(const_oid_is_equal(OCTETS(0), OCTETS(1)) == (status.detail == 1), line);
+    if (compared_by == const_oid_starts_with)
+        SEE(const_oid_is_under(OCTETS(0), OCTETS(1)) == (status.detail == 1), line);
     if (is_ok(status)) say("%s", words[status.detail]);
 }
 

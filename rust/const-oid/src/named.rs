@@ -33,6 +33,9 @@ pub fn parse<const MAX_SIZE: usize>(text: &str) -> Result<ObjectIdentifier<MAX_S
     let text = without_prefix(text.trim_ascii());
     let mut ends = once(text.len()).chain(text.rmatch_indices('.').map(|(end, _)| end)).filter(|end| *end < 256);
     match ends.find_map(|end| Some((by_name(&text[..end])?, &text[end..]))) {
+        Some((oid, ".")) if oid.as_oid_ref().parent().is_none_or(|parent| parent.as_bytes().len() <= MAX_SIZE) => {
+            Err(Error::TrailingDot)
+        }
         Some((oid, arcs)) => with_arcs(oid.as_oid_ref().try_into()?, arcs),
         None => ObjectIdentifier::new_sized(text),
     }

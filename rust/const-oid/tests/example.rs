@@ -64,14 +64,15 @@ fn run_each<'a>(arguments: impl Iterator<Item = &'a str>) -> (String, String, u8
     (String::from_utf8(out).unwrap(), String::from_utf8(errors).unwrap(), status)
 }
 
-/// Each row of what people type is read, and displayed, or has its error.
+/// Each row of what people type is read, and displayed, or has its error, with escapes.
 #[test]
 fn reads_what_people_type() {
     for line in include_str!("typed_names.tsv").lines() {
         let [input, wanted, shown] = Vec::from_iter(line.split('\t')).try_into().unwrap();
         let (out, errors, status) = run_each([input].into_iter());
         let is_read = out.starts_with(&format!("{wanted}\n  by name: {shown}\n")) && errors.is_empty();
-        let is_wrong = errors.starts_with(&format!("{input}: {wanted}")) && out.is_empty();
+        let error = format!("{input}: {wanted}").escape_debug().to_string().replace("\\'", "'");
+        let is_wrong = errors.starts_with(&error) && out.is_empty();
         assert!(if status == 0 { is_read } else { is_wrong }, "{input}");
     }
 }
