@@ -46,3 +46,4 @@ pub mod WordBytes
 pub mod WrongIndex
 pub mod Identifiers
 pub mod Sets
+pub mod TypedNames

@@ -17,3 +17,4 @@ pub mod Oid
 pub mod Names
 pub mod SortedList
 pub mod Private
+pub mod Typed

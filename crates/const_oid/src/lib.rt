@@ -30,6 +30,7 @@ mod parser;
 mod parts;
 mod root;
 pub mod search;
+pub mod tables;
 mod text;
 // Rust's traits have a constant.
 // erase: omit
