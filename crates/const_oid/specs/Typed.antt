@@ -1,5 +1,5 @@
 -- What people type and read: blanks, a prefix, and names before arcs.
-use Rattle.std.specs.Prelude.{◌≡◌, ℕ, zero, suc, ◌+◌, ◌-◌, ◌<◌, ◌==◌, ◌&&◌, ◌||◌, Bool, false, List, [], ◌∷◌, ◌++◌, length, take, drop, get_or, take_while, flat_map, decimal, nat_lt, nat_eq, if◌then◌else◌, Option, Some, None, option_map, codes, Result}
+use Rattle.std.specs.Prelude.{◌≡◌, ℕ, zero, suc, ◌+◌, ◌-◌, ◌<◌, ◌==◌, ◌&&◌, ◌||◌, Bool, false, List, ◌∷◌, ◌++◌, length, take, drop, get_or, take_while, flat_map, decimal, nat_lt, nat_eq, if◌then◌else◌, Option, Some, None, option_map, codes, Result}
 use Rattle.std.specs.Borrow.{Bor}
 use Rattle.std.specs.Char.{is_ascii_alphabetic, is_ascii_alphanumeric, is_ascii_digit, is_ascii_whitespace}
 use Rattle.std.specs.Cmp.Lexicographic.{pointwise}

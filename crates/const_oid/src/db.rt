@@ -148,14 +148,23 @@ impl<'a> Database<'a> {
     /// The identifier in the first entry with this name, ignoring ASCII case, or `None` if there is no such entry.
     /// [`Database`] has an example.
     // erase: const
+    #[inline]
     pub fn by_name(&self, name: &str) -> Option<&'a Oid>
         ensures { result ≡ first_oid (entries_of self.now) name.now }
     {
+        self.by_name_bytes(name.as_bytes())
+    }
+
+    /// The identifier in the first entry with a name of these bytes, ignoring ASCII case, or `None`.
+    // erase: const
+    pub(crate) fn by_name_bytes(&self, name: &[u8]) -> Option<&'a Oid>
+        ensures { result ≡ first_oid (entries_of self.now) name.now }
+    {
         let count = self.entries.len();
-        let mut index = first_candidate::<CASE>(self.name_links, count, name.as_bytes());
+        let mut index = first_candidate::<CASE>(self.name_links, count, name);
         while index < count {
             let entry = &self.entries[index];
-            if is_same_name(entry.1, name) {
+            if is_same_name(entry.1.as_bytes(), name) {
                 return Some(entry.0);
             }
             index = next_candidate(self.name_links, count, index);

@@ -100,7 +100,7 @@ impl<'a> SortedDatabase<'a> {
         ensures { result ≡ first_oid (sorted_entries_of self.now) name.now }
     {
         let mut entries = self.entries.iter();
-        let found = entries.find(|entry| is_same_name(entry.1, name))?;
+        let found = entries.find(|entry| is_same_name(entry.1.as_bytes(), name.as_bytes()))?;
         Some(found.0)
     }
 

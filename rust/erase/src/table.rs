@@ -46,6 +46,7 @@ pub const CRATES: &[Crate] = &[
                 => "#[cfg(feature = \"db\")] pub mod db; #[cfg(feature = \"db\")] mod db_sorted;",
                 "they are of a feature";
             "lib": "pub(crate) mod links;" => "#[cfg(feature = \"db\")] pub(crate) mod links;", "as above";
+            "lib": "pub mod tables;" => "#[cfg(feature = \"db\")] pub mod tables;", "as above";
             "lib": "mod encoder;" => "pub(crate) mod encoder;", FOR_C;
             "lib": "mod text;" => "pub(crate) mod text;", FOR_C;
             "oid_ref": "#[derive(Copy, Clone, Eq, Hash)] pub struct ObjectIdentifierRef<'a> { pub ber: &'a [u8], }"

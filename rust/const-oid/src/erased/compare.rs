@@ -76,10 +76,9 @@ pub(crate) fn common_parts<'a>(octets: &'a [u8], others: &[u8]) -> &'a [u8] {
     without_last_part(first_octets(octets, same + 1))
 }
 
-/// Whether names are the same. Words are compared first. Most that differ do so in the last one, also ignoring ASCII
+/// Whether names are the same, by their bytes. Words are compared first. Most that differ do so in the last one, also ignoring ASCII
 /// case, and else their bytes are compared.
-pub(crate) const fn is_same_name(a: &str, b: &str) -> bool {
-    let (a, b) = (a.as_bytes(), b.as_bytes());
+pub(crate) const fn is_same_name(a: &[u8], b: &[u8]) -> bool {
     if a.len() != b.len() {
         return false;
     }

@@ -111,13 +111,19 @@ impl<'a> Database<'a> {
 
     /// The identifier in the first entry with this name, ignoring ASCII case, or `None` if there is no such entry.
     /// [`Database`] has an example.
+    #[inline]
     #[must_use]
     pub const fn by_name(&self, name: &str) -> Option<&'a Oid> {
+        self.by_name_bytes(name.as_bytes())
+    }
+
+    /// The identifier in the first entry with a name of these bytes, ignoring ASCII case, or `None`.
+    pub(crate) const fn by_name_bytes(&self, name: &[u8]) -> Option<&'a Oid> {
         let count = self.entries.len();
-        let mut index = first_candidate::<CASE>(self.name_links, count, name.as_bytes());
+        let mut index = first_candidate::<CASE>(self.name_links, count, name);
         while index < count {
             let entry = &self.entries[index];
-            if is_same_name(entry.1, name) {
+            if is_same_name(entry.1.as_bytes(), name) {
                 return Some(entry.0);
             }
             index = next_candidate(self.name_links, count, index);

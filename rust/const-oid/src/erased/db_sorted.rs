@@ -82,7 +82,7 @@ impl<'a> SortedDatabase<'a> {
     #[must_use]
     pub fn by_name(&self, name: &str) -> Option<&'a ObjectIdentifierRef> {
         let mut entries = self.entries.iter();
-        let found = entries.find(|entry| is_same_name(entry.1, name))?;
+        let found = entries.find(|entry| is_same_name(entry.1.as_bytes(), name.as_bytes()))?;
         Some(found.0)
     }
 

@@ -28,6 +28,8 @@ mod parser;
 mod parts;
 mod root;
 pub mod search;
+#[cfg(feature = "db")]
+pub mod tables;
 pub(crate) mod text;
 mod valid;
 
