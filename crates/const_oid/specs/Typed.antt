@@ -23,9 +23,13 @@ without_blanks text =
     let begun = drop (prefix_len is_ascii_whitespace text) text in
     take (length begun - suffix_len is_ascii_whitespace begun) begun
 
+-- a letter, a digit or a hyphen
+abbrev pub is_in_word : ℕ → Bool
+is_in_word b = is_ascii_alphanumeric b || b == 45
+
 -- the letters, digits and hyphens that a text begins with
 abbrev pub word_of : List ℕ → List ℕ
-word_of text = take_while (λ b. is_ascii_alphanumeric b || b == 45) text
+word_of text = take_while is_in_word text
 
 -- the text begins with these characters, in any case
 abbrev pub begins_with : List ℕ → List ℕ → Bool

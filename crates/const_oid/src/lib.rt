@@ -32,6 +32,7 @@ mod root;
 pub mod search;
 pub mod tables;
 mod text;
+mod typed;
 // Rust's traits have a constant.
 // erase: omit
 pub mod traits;
