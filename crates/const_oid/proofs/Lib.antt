@@ -47,3 +47,5 @@ pub mod WrongIndex
 pub mod Identifiers
 pub mod Sets
 pub mod TypedNames
+pub mod SpeltUpTo
+pub mod Bare

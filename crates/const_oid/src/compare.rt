@@ -160,7 +160,7 @@ const fn first_difference(a: &[u8], b: &[u8], start: usize, end: usize) -> usize
 
 /// The lesser of two numbers: constants cannot call `usize::min`.
 #[inline(always)]
-const fn lesser(a: usize, b: usize) -> usize
+pub(crate) const fn lesser(a: usize, b: usize) -> usize
     ensures { result ≡ min a b }
 {
     if a < b { a } else { b }

@@ -1,16 +1,38 @@
-//! What people type before arcs: blanks and a prefix.
+//! What people type before arcs: blanks, a prefix and a name.
 
-ghost use Rattle.std.specs.Prelude.{◌≡◌, ◌≤◌, ◌&&◌, codes, length, get_or, IsTrue};
+ghost use Rattle.std.specs.Prelude.{◌≡◌, ◌<◌, ◌≤◌, ◌&&◌, ◌++◌, ◌-◌, codes, drop, take, length, get_or, min, Some, None, IfSome, IsTrue, MatchOption};
 ghost use Rattle.std.specs.Char.{is_ascii_alphabetic};
-ghost use Rattle.std.specs.Str.{str_eq_ignore_ascii_case};
-ghost use Rattle.const_oid.specs.Typed.{bare, begins_with, begins_with_digit, prefix_of, word_of};
+ghost use Rattle.std.specs.Option.{option_map};
+ghost use Rattle.const_oid.specs.Names.{lent_arcs};
+ghost use Rattle.const_oid.specs.Oid.{oid_answer};
+ghost use Rattle.const_oid.specs.Text.{dot, text_of};
+ghost use Rattle.const_oid.specs.Typed.{bare, begins_with, begins_with_digit, entries_in, prefix_of, spelt_at, spelt_up_to, typed_answer, word_of};
+
+use crate::compare::{is_same_name, lesser};
+use crate::error::Result;
+use crate::oid::{ObjectIdentifier, Oid};
+use crate::tables::Tables;
 
 /// The text without blanks around it, and then without a prefix.
-pub(crate) fn bare(text: &[u8]) -> &[u8]
+// erase: const
+fn bare(text: &[u8]) -> &[u8]
     ensures { result.now ≡ bare text.now }
 {
-    let text = text.trim_ascii();
-    text.split_at(prefix_len(text)).1
+    let (start, end) = bare_range(text);
+    &text[start..end]
+}
+
+/// Where the text without blanks around it, and then without a prefix, is in the text: its start and its end.
+// erase: const
+pub fn bare_range(text: &[u8]) -> (usize, usize)
+    ensures bare { take (result.1 - result.0) (drop result.0 text.now) ≡ bare text.now }
+    ensures order { result.0 ≤ result.1 }
+    ensures within { result.1 ≤ length text.now }
+{
+    let begun = text.trim_ascii_start();
+    let start = text.len() - begun.len();
+    let ended = begun.trim_ascii_end();
+    (start + prefix_len(ended), start + ended.len())
 }
 
 /// Whether a text begins with a digit: then it has no prefix, and no name.
@@ -21,15 +43,16 @@ pub(crate) const fn begins_with_digit(text: &[u8]) -> bool
 }
 
 /// How many bytes the prefix of a text has.
+// erase: const
 fn prefix_len(text: &[u8]) -> usize
     ensures prefix { result ≡ prefix_of text.now }
     ensures within { result ≤ length text.now }
 {
     let end = word_len(text);
     let (word, rest) = text.split_at(end);
-    if begins_with(b".", rest) && (word.is_empty() || is_same(word, b"OID")) {
+    if begins_with(b".", rest) && (word.is_empty() || is_same_name(word, b"OID")) {
         end + 1
-    } else if begins_with(b":oid:", rest) && is_same(word, b"urn") {
+    } else if begins_with(b":oid:", rest) && is_same_name(word, b"urn") {
         end + 5
     } else if is_module(text, rest) {
         end + 2
@@ -39,6 +62,7 @@ fn prefix_len(text: &[u8]) -> usize
 }
 
 /// How many letters, digits and hyphens a text begins with.
+// erase: const
 fn word_len(text: &[u8]) -> usize
     ensures word { result ≡ length (word_of text.now) }
     ensures within { result ≤ length text.now }
@@ -51,6 +75,7 @@ fn word_len(text: &[u8]) -> usize
 }
 
 /// Whether a text begins with a letter, and what comes after its first word with two colons.
+// erase: const
 fn is_module(text: &[u8], rest: &[u8]) -> bool
     ensures value { result ≡ (begins_with (codes "::") rest.now && is_ascii_alphabetic (get_or text.now 0 0)) }
     ensures within { IsTrue result → 2 ≤ length rest.now }
@@ -59,6 +84,7 @@ fn is_module(text: &[u8], rest: &[u8]) -> bool
 }
 
 /// Whether a text begins with a letter.
+// erase: const
 fn begins_with_letter(text: &[u8]) -> bool
     ensures { result ≡ is_ascii_alphabetic (get_or text.now 0 0) }
 {
@@ -66,16 +92,45 @@ fn begins_with_letter(text: &[u8]) -> bool
 }
 
 /// Whether a text begins with these characters, in any case.
+// erase: const
 fn begins_with(start: &[u8], text: &[u8]) -> bool
     ensures value { result ≡ begins_with start.now text.now }
     ensures within { IsTrue result → length start.now ≤ length text.now }
 {
-    start.len() <= text.len() && is_same(text.split_at(start.len()).0, start)
+    start.len() <= text.len() && is_same_name(text.split_at(start.len()).0, start)
 }
 
-/// Whether texts are the same, ignoring ASCII case.
-fn is_same(text: &[u8], other: &[u8]) -> bool
-    ensures { result ≡ str_eq_ignore_ascii_case text.now other.now }
+/// The most bytes of a name that arcs may follow.
+const MAX_NAME_BYTES: usize = 255;
+
+/// The identifier of the longest name that a text begins with, and where the name ends.
+// erase: const
+pub(crate) fn longest_name<'a>(tables: &Tables<'a>, text: &[u8]) -> Option<(&'a Oid, usize)>
+    ensures spelt { let entries = entries_in tables.now in MatchOption result (spelt_up_to entries text.now (length text.now) ≡ None)
+        (λ found. spelt_up_to entries text.now (length text.now) ≡ Some (text_of (lent_arcs found.0) ++ drop found.1 text.now)) }
+    ensures end { IfSome result (λ found. (found.1 ≤ length text.now) × (found.1 < length text.now → get_or text.now found.1 0 ≡ dot)) }
 {
-    text.eq_ignore_ascii_case(other)
+    let mut end = lesser(text.len(), MAX_NAME_BYTES);
+    loop {
+        if let Some(oid) = name_at(tables, text, end) {
+            return Some((oid, end));
+        }
+        if end == 0 {
+            return None;
+        }
+        end -= 1;
+    }
+}
+
+/// The identifier of the name that a text begins with, if it ends at an index: with the text, or before a dot.
+// erase: const
+fn name_at<'a>(tables: &Tables<'a>, text: &[u8], end: usize) -> Option<&'a Oid>
+    requires { end ≤ min (length text.now) MAX_NAME_BYTES }
+    ensures spelt { spelt_at (entries_in tables.now) text.now end ≡ option_map (λ oid. text_of (lent_arcs oid) ++ drop end text.now) result }
+    ensures end { IfSome result (λ _. end < length text.now → get_or text.now end 0 ≡ dot) }
+{
+    if end < text.len() && text[end] != b'.' {
+        return None;
+    }
+    tables.by_name_bytes(text.split_at(end).0)
 }
