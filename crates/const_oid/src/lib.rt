@@ -32,7 +32,8 @@ mod root;
 pub mod search;
 pub mod tables;
 mod text;
-mod typed;
+// One of its functions is for C.
+pub mod typed;
 // Rust's traits have a constant.
 // erase: omit
 pub mod traits;
