@@ -1,5 +1,5 @@
 -- What people type and read: blanks, a prefix, and names before arcs.
-use Rattle.std.specs.Prelude.{◌≡◌, ℕ, zero, suc, ◌+◌, ◌-◌, ◌<◌, ◌==◌, ◌&&◌, ◌||◌, Bool, false, List, ◌∷◌, ◌++◌, length, take, drop, get_or, take_while, flat_map, decimal, nat_lt, nat_eq, if◌then◌else◌, Option, Some, None, option_map, codes, Result}
+use Rattle.std.specs.Prelude.{◌≡◌, ℕ, zero, suc, ◌+◌, ◌-◌, ◌<◌, ◌==◌, ◌&&◌, ◌||◌, Bool, false, List, ◌∷◌, ◌++◌, length, take, drop, get_or, take_while, flat_map, decimal, nat_lt, nat_eq, if◌then◌else◌, Option, Some, None, option_map, unwrap_or, codes, Result}
 use Rattle.std.specs.Borrow.{Bor}
 use Rattle.std.specs.Char.{is_ascii_alphabetic, is_ascii_alphanumeric, is_ascii_digit, is_ascii_whitespace}
 use Rattle.std.specs.Cmp.Lexicographic.{pointwise}
@@ -13,8 +13,12 @@ use Rattle.const_oid.specs.Identifier.{root_rule}
 use Rattle.const_oid.specs.Names.{Entry, entries_of, first_name, first_oid, lent_arcs}
 use Rattle.const_oid.specs.Text.{dot, is_empty, text_answer, text_of}
 
+-- entries of identifiers of the default capacity, as a table has
+abbrev pub Entries : Type 0
+Entries = List (Entry (Bor (ObjectIdentifier 39)))
+
 -- the entries of tables, those of one table after those of the one before
-abbrev pub entries_in : Tables → List (Entry (Bor (ObjectIdentifier 39)))
+abbrev pub entries_in : Tables → Entries
 entries_in tables = flat_map entries_of tables.0.now
 
 -- the text without the blanks around it
@@ -54,31 +58,31 @@ abbrev pub begins_with_digit : List ℕ → Bool
 begins_with_digit text = is_ascii_digit (get_or text 0 0)
 
 -- the arcs that a name leads to: those of the first entry with it
-abbrev pub led : List (Entry (Bor (ObjectIdentifier 39))) → List ℕ → Option (List ℕ)
+abbrev pub led : Entries → List ℕ → Option (List ℕ)
 led entries name = option_map lent_arcs (first_oid entries name)
 
 -- the text with arcs in place of its first n bytes, at most 255, if they are a name: all of it, or what is before a dot
-abbrev pub spelt_at : List (Entry (Bor (ObjectIdentifier 39))) → List ℕ → ℕ → Option (List ℕ)
+abbrev pub spelt_at : Entries → List ℕ → ℕ → Option (List ℕ)
 spelt_at entries text n =
     if (n == length text || get_or text n 0 == dot) && nat_lt n 256
     then option_map (λ arcs. text_of arcs ++ drop n text) (led entries (take n text)) else None
 
 -- the same of the longest name of at most n bytes
-abbrev pub spelt_up_to : List (Entry (Bor (ObjectIdentifier 39))) → List ℕ → ℕ → Option (List ℕ)
+abbrev pub spelt_up_to : Entries → List ℕ → ℕ → Option (List ℕ)
 spelt_up_to entries text zero = spelt_at entries text 0
 spelt_up_to entries text (suc n) = option_or (spelt_at entries text (suc n)) (spelt_up_to entries text n)
 
 -- the text with arcs in place of the longest name that it begins with; one that begins with a digit has no name
-abbrev pub spelt_out : List (Entry (Bor (ObjectIdentifier 39))) → List ℕ → List ℕ
+abbrev pub spelt_out : Entries → List ℕ → List ℕ
 spelt_out entries text =
-    if begins_with_digit text then text else option_map_or (λ spelt. spelt) (spelt_up_to entries text (length text)) text
+    if begins_with_digit text then text else unwrap_or (spelt_up_to entries text (length text)) text
 
 -- what a typed text is read as at a capacity: what it denotes without a prefix, and with arcs in place of a name
-abbrev pub typed_answer : List (Entry (Bor (ObjectIdentifier 39))) → List ℕ → ℕ → Result (List ℕ) Error
+abbrev pub typed_answer : Entries → List ℕ → ℕ → Result (List ℕ) Error
 typed_answer entries text capacity = text_answer root_rule (spelt_out entries (bare text)) capacity
 
 -- the name that is shown for arcs: that of the first entry with them, if it leads to them
-abbrev pub shown : List (Entry (Bor (ObjectIdentifier 39))) → List ℕ → Option (List ℕ)
+abbrev pub shown : Entries → List ℕ → Option (List ℕ)
 shown entries arcs = option_and_then (λ name. option_and_then
     (λ other. if pointwise nat_eq other arcs then Some name.now else None) (led entries name.now)) (first_name lent_arcs entries arcs)
 
@@ -87,13 +91,13 @@ abbrev pub dotted : List ℕ → List ℕ
 dotted arcs = flat_map (λ arc. dot ∷ decimal arc) arcs
 
 -- the name of the longest prefix that has one, of at most n arcs, and the other arcs, or else the dotted text
-abbrev pub displayed_up_to : List (Entry (Bor (ObjectIdentifier 39))) → List ℕ → ℕ → List ℕ
+abbrev pub displayed_up_to : Entries → List ℕ → ℕ → List ℕ
 displayed_up_to entries arcs zero = text_of arcs
 displayed_up_to entries arcs (suc n) = option_map_or (λ name. name ++ dotted (drop (suc n) arcs))
     (shown entries (take (suc n) arcs)) (displayed_up_to entries arcs n)
 
 -- what is displayed of arcs
-abbrev pub displayed : List (Entry (Bor (ObjectIdentifier 39))) → List ℕ → List ℕ
+abbrev pub displayed : Entries → List ℕ → List ℕ
 displayed entries arcs = displayed_up_to entries arcs (length arcs)
 
 -- a name is read as itself, alone and before arcs
@@ -104,7 +108,7 @@ pub record IsReadable (name : List ℕ) : Type 0 where
   pub short : length name < 256
 
 -- each shown name is readable, and a name that is a shown name and arcs leads to these arcs
-pub record AreReadable (entries : List (Entry (Bor (ObjectIdentifier 39)))) : Type 0 where
+pub record AreReadable (entries : Entries) : Type 0 where
   pub names : (arcs name : List ℕ) → shown entries arcs ≡ Some name → IsReadable name
   pub below : (arcs name later other : List ℕ) (arc : ℕ) → shown entries arcs ≡ Some name
       → led entries (name ++ dotted (arc ∷ later)) ≡ Some other → other ≡ arcs ++ arc ∷ later
