@@ -49,3 +49,7 @@ pub mod Sets
 pub mod TypedNames
 pub mod SpeltUpTo
 pub mod Bare
+pub mod BareTexts
+pub mod Dotted
+pub mod SpeltOut
+pub mod Displayed

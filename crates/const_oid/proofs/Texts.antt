@@ -22,7 +22,7 @@ components_of-join component (next ∷ more) h = search (slice_split_at, undotte
 
 -- ---- what is printed is read back
 
-abbrev AreArcs : List ℕ → Type 0
+abbrev pub AreArcs : List ℕ → Type 0
 AreArcs arcs = AllByRecursion (λ n. n ≤ max_arc) arcs
 
 decimals_are : (arcs : List ℕ) → AreArcs arcs → AllByRecursion IsNumber (map decimal arcs)

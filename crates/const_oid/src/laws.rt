@@ -3,7 +3,7 @@
 //! A `rule` is either of the two rules of the root: `Wide`, which the crate keeps, or `Narrow`. An input is accepted if
 //! it has no fault. A group is the octets of one subidentifier.
 
-ghost use Rattle.std.specs.Prelude.{◌≡◌, ◌≢◌, ◌↔◌, ℕ, ◌+◌, ◌*◌, ◌^◌, ◌<◌, ◌≤◌, List, [], ◌∷◌, ◌++◌, length, map, drop, nat_lt, sum_by, count_by, Some, None, Ok, codes, ◌-◌, take, slice_get};
+ghost use Rattle.std.specs.Prelude.{◌≡◌, ◌≢◌, ◌↔◌, ℕ, ◌+◌, ◌*◌, ◌^◌, ◌<◌, ◌≤◌, List, [], ◌∷◌, ◌++◌, length, map, drop, nat_lt, sum_by, count_by, true, Some, None, Ok, codes, ◌-◌, take, slice_get};
 ghost use Rattle.std.specs.Cmp.{IsTotalOrder};
 ghost use Rattle.std.specs.Cmp.Lexicographic.{slice_cmp};
 ghost use Rattle.std.specs.List.{AllByRecursion, AllZip, concat};
@@ -20,6 +20,7 @@ ghost use Rattle.const_oid.specs.Identifier.{RootRule, Narrow, Wide, root_rule, 
 ghost use Rattle.const_oid.specs.Orders.{shortlex_cmp, parts_cmp};
 ghost use Rattle.const_oid.specs.Text.{text_fault, text_answer, text_of, components_of, number_of, Denotes, strip};
 ghost use Rattle.const_oid.specs.Tree.{BeginsWith, child_of, parent_of};
+ghost use Rattle.const_oid.specs.Typed.{AreReadable, Entries, IsReadable, bare, begins_with_digit, displayed, dotted, led, typed_answer, without_blanks};
 ghost use Rattle.const_oid.specs.WideRule.{IsPastNarrow, RefusesSecond};
 
 /// Examples, which the definitions compute: under the rule of this crate, except for those that name the narrow one.
@@ -332,4 +333,26 @@ pub fn no_overflow()
         → octet_fault rule octets capacity ≢ Some Overflow }
     ensures texts { (rule : RootRule) (capacity : ℕ) (text : List ℕ) → text_fault rule text capacity ≢ Some Overflow }
     ensures items { (rule : RootRule) (capacity : ℕ) (items : List ℕ) → item_fault rule items capacity ≢ Some Overflow }
+{}
+
+/// Text that begins with a digit is parsed as dotted text, whatever the names are, and without blanks around it as it is.
+pub fn no_name_begins_with_a_digit()
+    ensures bare { (entries : Entries) (text : List ℕ) (capacity : ℕ) → begins_with_digit (bare text) ≡ true
+        → typed_answer entries text capacity ≡ text_answer root_rule (bare text) capacity }
+    ensures whole { (entries : Entries) (text : List ℕ) (capacity : ℕ) → without_blanks text ≡ text
+        → begins_with_digit text ≡ true → typed_answer entries text capacity ≡ text_answer root_rule text capacity }
+{}
+
+/// A name and arcs are parsed as the name's arcs and these, unless the name and the first of these are a name, too.
+pub fn names_before_arcs()
+    ensures { (entries : Entries) (name arcs later : List ℕ) (capacity : ℕ) → IsReadable name
+        → led entries name ≡ Some arcs → AllByRecursion (λ arc. arc ≤ max_arc) later
+        → ((n : ℕ) → n < length later → led entries (name ++ dotted (take (n + 1) later)) ≡ None)
+        → typed_answer entries (name ++ dotted later) capacity ≡ text_answer root_rule (text_of (arcs ++ later)) capacity }
+{}
+
+/// What is displayed is parsed as the same identifier, if the names are readable.
+pub fn displayed_is_parsed()
+    ensures { (entries : Entries) (arcs : List ℕ) (capacity : ℕ) → AreReadable entries → IsIdentifier root_rule arcs
+        → size arcs ≤ capacity → typed_answer entries (displayed entries arcs) capacity ≡ Ok arcs }
 {}

@@ -1,0 +1,83 @@
+-- What is displayed, and that it is read back.
+use Rattle.std.proofs.Common.{◌≡◌, ℕ, zero, suc, ◌≤◌, true, false, List, [], ◌∷◌, ◌++◌, length, take, drop, nat_eq}
+use Rattle.std.proofs.Common.{refl, sym, ap, ◌∙◌, ⊎_elim, if◌then◌else◌, Option, Some, None, Ok}
+use Rattle.std.specs.Borrow.{Bor}
+use Rattle.std.specs.Cmp.Lexicographic.{pointwise}
+use Rattle.std.specs.Option.{option_and_then, option_map_or}
+use Rattle.std.proofs.lemmas.{Bool.cases_Bool, List.take-append-drop}
+use Rattle.const_oid.specs.Identifier.{root_rule, size, IsIdentifier}
+use Rattle.const_oid.specs.Names.{first_name, lent_arcs}
+use Rattle.const_oid.specs.Text.{text_answer, text_of}
+use Rattle.const_oid.specs.Typed.{displayed, displayed_up_to, dotted, led, shown, typed_answer, AreReadable, Entries}
+use Rattle.const_oid.proofs.{BareTexts.{bare_text_of, text_begins_with_digit}, Hashes.same_bytes, SpeltOut.name_answer}
+use Rattle.const_oid.proofs.Texts.{arcs_small, text_denotes, text_fault-none, AreArcs}
+
+-- ---- a shown name
+
+abbrev shown_if : List ℕ → List ℕ → List ℕ → Option (List ℕ)
+shown_if arcs name other = if pointwise nat_eq other arcs then Some name else None
+
+leads_if : (arcs name shown other : List ℕ) → shown_if arcs shown other ≡ Some name → (shown ≡ name) × (other ≡ arcs)
+leads_if arcs name shown other is = ⊎_elim
+    (λ (same : pointwise nat_eq other arcs ≡ true). (let e = rw same at is in cc, same_bytes other arcs same))
+    (λ (fails : pointwise nat_eq other arcs ≡ false). let e = rw fails at is in cc)
+    (cases_Bool (pointwise nat_eq other arcs))
+
+leads_by : (arcs name shown : List ℕ) (led : Option (List ℕ)) → option_and_then (shown_if arcs shown) led ≡ Some name → (shown ≡ name) × (led ≡ Some arcs)
+leads_by arcs name shown None is = cc
+leads_by arcs name shown (Some other) is = let (same, leads) = leads_if arcs name shown other is in (same, ap Some leads)
+
+leads_of : (entries : Entries) (arcs name : List ℕ) (found : Option (Bor (List ℕ)))
+    → option_and_then (λ shown. option_and_then (shown_if arcs shown.now) (led entries shown.now)) found ≡ Some name → led entries name ≡ Some arcs
+leads_of entries arcs name None is = cc
+leads_of entries arcs name (Some shown) is = let (same, leads) = leads_by arcs name shown.now (led entries shown.now) is in rw same at leads
+
+-- it leads to its arcs
+pub shown_leads : (entries : Entries) (arcs name : List ℕ) → shown entries arcs ≡ Some name → led entries name ≡ Some arcs
+shown_leads entries arcs name is = leads_of entries arcs name (first_name lent_arcs entries arcs) is
+
+-- ---- what is displayed
+
+text_answer-text_of : (arcs : List ℕ) (capacity : ℕ) → IsIdentifier root_rule arcs → size arcs ≤ capacity
+    → text_answer root_rule (text_of arcs) capacity ≡ Ok arcs
+text_answer-text_of arcs capacity identifier fits =
+    let denotes = text_denotes root_rule arcs identifier in
+    rw (text_fault-none root_rule capacity (text_of arcs) arcs denotes fits) (ap Ok (sym denotes.values))
+
+small_parts : (begun more : List ℕ) → AreArcs (begun ++ more) → AreArcs more
+small_parts [] more small = small
+small_parts (arc ∷ begun) more small = small_parts begun more small.1
+
+dotted_answer : (entries : Entries) (arcs : List ℕ) (capacity : ℕ) → IsIdentifier root_rule arcs
+    → typed_answer entries (text_of arcs) capacity ≡ text_answer root_rule (text_of arcs) capacity
+dotted_answer entries [] capacity identifier = absurd identifier
+dotted_answer entries (arc ∷ later) capacity identifier =
+    let small = arcs_small root_rule (arc ∷ later) identifier in
+    rw (bare_text_of arc later small, text_begins_with_digit arc later small) refl
+
+by_cases : (P : List ℕ → Type 0) (change : List ℕ → List ℕ) (found : Option (List ℕ)) (default : List ℕ)
+    → ((name : List ℕ) → found ≡ Some name → P (change name)) → P default → P (option_map_or change found default)
+by_cases P change None default there none = none
+by_cases P change (Some name) default there none = there name refl
+
+module _ (entries : Entries) (arcs : List ℕ) (capacity : ℕ) (readable : AreReadable entries) (identifier : IsIdentifier root_rule arcs) (fits : size arcs ≤ capacity) where
+  abbrev IsRead : List ℕ → Type 0
+  IsRead text = typed_answer entries text capacity ≡ Ok arcs
+
+  dotted_read : IsRead (text_of arcs)
+  dotted_read = dotted_answer entries arcs capacity identifier ∙ text_answer-text_of arcs capacity identifier fits
+
+  name_read : (name begun later : List ℕ) → begun ++ later ≡ arcs → shown entries begun ≡ Some name → IsRead (name ++ dotted later)
+  name_read name begun later joined is =
+      let small = small_parts begun later (rw joined (arcs_small root_rule arcs identifier)) in
+      name_answer entries name begun later (readable.names begun name is) (shown_leads entries begun name is) small
+      (λ arc more _ other _. readable.below begun name more other arc is) capacity
+      ∙ rw joined (text_answer-text_of arcs capacity identifier fits)
+
+  read_up_to : (n : ℕ) → IsRead (displayed_up_to entries arcs n)
+  read_up_to zero = dotted_read
+  read_up_to (suc n) = by_cases IsRead (λ name. name ++ dotted (drop (suc n) arcs)) (shown entries (take (suc n) arcs)) (displayed_up_to entries arcs n)
+      (λ name is. name_read name (take (suc n) arcs) (drop (suc n) arcs) (take-append-drop (suc n) arcs) is) (read_up_to n)
+
+  pub displayed_read : IsRead (displayed entries arcs)
+  displayed_read = read_up_to (length arcs)
