@@ -13,3 +13,4 @@ pub mod output;
 pub mod status;
 pub mod texts;
 pub mod tree;
+pub mod typed;
