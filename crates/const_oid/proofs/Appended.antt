@@ -103,13 +103,12 @@ taken {len} {old} {new} is room =
       rest = rw begins (drop-append-drop (length is.octets) old is.octets len (omega (arith, is.long)) refl);
     }
 
--- an array in which no octet is in use is all zeros
-pub unused : {used : ℕ} (size : ℕ) (bytes : List ℕ) → take used bytes ≡ [] → used ≤ length bytes
-    → drop used bytes ≡ replicate (size - used) 0 → bytes ≡ replicate size 0
-unused {used} size bytes none within zeros =
-    let zero : used ≡ 0 = omega (arith, ap length none, length-take-le used bytes) in
-    let all : size - 0 ≡ size = omega arith in
-    rw (zero, all) at zeros
+-- octets in use, and zeros after them
+pub used_first : {used : ℕ} {octets : List ℕ} (size : ℕ) (bytes : List ℕ) → take used bytes ≡ octets → used ≤ length bytes
+    → drop used bytes ≡ replicate (size - used) 0 → bytes ≡ written_over octets (replicate size 0)
+used_first {used} {octets} size bytes front within zeros =
+    let long : used ≡ length octets = sym (length-take-le used bytes within) ∙ ap length front in
+    sym (take-append-drop used bytes) ∙ rw (front, zeros, ← long, drop-replicate) refl
 
 pub ruleset buffered = (taken, drop-replicate)
 

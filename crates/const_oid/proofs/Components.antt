@@ -6,15 +6,15 @@ use Rattle.std.specs.{List.onto_first, Bool.then_some, Char.is_ascii_digit, Str.
 use Rattle.std.proofs.lemmas.{Bool.Decides.nat_tests, List.{drop_more, drop_all, length-drop}}
 use Rattle.std.proofs.lemmas.List.Sums.{count_by_more_no, count_by_more_yes}
 use Rattle.std.proofs.lemmas.List.Splits.{length-slice_split, slice_split_at, slice_split_none}
-use Rattle.const_oid.specs.{Identifier.{root_rule, max_arc, IsEncoding, IsIdentifier}, Items.arc_fault, declared.error.Error.Error}
+use Rattle.const_oid.specs.{Identifier.{root_rule, max_arc, IsIdentifier}, Items.arc_fault, declared.error.Error.Error}
 use Rattle.const_oid.specs.declared.error.Error.TheVariants.{ArcInvalid, ArcTooBig, DigitExpected, Empty, Length, TrailingDot}
-use Rattle.const_oid.specs.{Contents.arcs_of_octets, Base128.width, Output.{IsEncodedIn, written_over}, Private.Octets.AppendsTo}
+use Rattle.const_oid.specs.{Contents.arcs_of_octets, Base128.width, Output.IsEncodedIn, Private.Octets.AppendsTo}
 use Rattle.const_oid.specs.Stop.{component_at, or_trailing, stop_fault}
 use Rattle.const_oid.specs.Private.Parser.{components_found, text_found, found_after, arc_found}
-use Rattle.const_oid.specs.Private.Parser.{HasFault, IsFoundAt, IsComponent, IsRoot, IsWithin}
+use Rattle.const_oid.specs.Private.Parser.{AreRead, HasFault, IsFoundAfter, IsFoundAt, IsComponent, IsRoot, IsWithin, IsWrittenTo}
 use Rattle.const_oid.specs.Text.{components_of, number_of, is_empty, is_one_empty, text_answer, IsNumber}
 use Rattle.const_oid.proofs.WrongIndex.{same_text}
-use Rattle.const_oid.proofs.Appended.{IsAppended, IsLonger, longer_by}
+use Rattle.const_oid.proofs.Appended.{IsLonger, longer_by}
 use Rattle.const_oid.proofs.{Lists.append-cons, Started.{Encodes, root_encodes, later_encodes}}
 use Rattle.const_oid.proofs.{Faults.{none_from_below, some_from_above}, Encodings.{arcs_of_encoding, encoding_back}}
 use Rattle.const_oid.proofs.Numbers.{number_of_digits, find-none, take_while-digits, find-digits, undotted}
@@ -47,7 +47,7 @@ module _ (capacity : ℕ) (before : List ℕ) where
 
   -- ---- a component without a fault of its own
 
-  number_read : (digits bytes : List ℕ) → IsNumber digits → number_of digits ≤ max_arc
+  pub number_read : (digits bytes : List ℕ) → IsNumber digits → number_of digits ≤ max_arc
       → (0 < length bytes → get_or bytes 0 0 ≡ 46) → (fault : Option Error)
       → arc_fault root_rule capacity before (number_of digits) ≡ fault
       → found (digits ++ bytes) ≡ arc_found capacity before (number_of digits) bytes fault
@@ -184,29 +184,26 @@ end_fault text start last = record {
 
 -- ---- the octets of the components so far
 
--- the components that end at an index or before are arcs, without a fault
-pub record AreRead (capacity : ℕ) (text before : List ℕ) (end : ℕ) : Type 0 where
-  pub found : text_found capacity text ≡ found_after capacity before (drop end text)
-  pub component : component_at text end + 1 ≡ length before
-  pub within : end ≤ length text
-  pub dotted : end < length text → get_or text end 0 ≡ 46
-
 -- the first component
 pub first_wrong : {text : List ℕ} (capacity : ℕ) {fault : Error} {place : ℕ} → HasFault text 0 fault place
     → IsFoundAt capacity text fault place
-first_wrong capacity {fault} has = record {
-  found = has.is capacity [] refl ∙ ap (λ n. Err (fault, n)) (sym has.at.same);
+first_wrong capacity has = record {
+  index = 0;
+  found = has.is capacity [] refl;
+  component = omega (arith, has.at.same);
   within = has.at.within;
 }
 
 module _ {text : List ℕ} {first end : ℕ} (capacity : ℕ) (component : IsComponent text 0 first end) where
   pub first_above : 2 < first → IsFoundAt capacity text (or_trailing (ArcInvalid first) (drop end text)) end
   first_above high = record {
-    found = component.same capacity [] ∙ rw (some_from_above 2 first (ArcInvalid first) high, component.at.same) refl;
+    index = 0;
+    found = component.same capacity [] ∙ rw (some_from_above 2 first (ArcInvalid first) high) refl;
+    component = omega (arith, component.at.same);
     within = component.at.within;
   }
 
-  pub first_done : first ≤ 2 → AreRead capacity text (first ∷ []) end
+  pub first_done : first ≤ 2 → AreRead capacity [] 0 text (first ∷ []) end
   first_done low = record {
     found = component.same capacity [] ∙ rw (none_from_below 2 first (ArcInvalid first) low) refl;
     component = rw component.at.same refl;
@@ -217,7 +214,9 @@ module _ {text : List ℕ} {first end : ℕ} (capacity : ℕ) (component : IsCom
   -- nothing is left, or a dot
   pub first_alone : first ≤ 2 → length text ≤ end + 1 → IsFoundAt capacity text (or_trailing Empty (drop end text)) end
   first_alone low last = record {
-    found = (first_done low).found ∙ rw component.at.same (alone (drop end text) (omega (arith, length-drop end text)));
+    index = 0;
+    found = (first_done low).found ∙ alone (drop end text) (omega (arith, length-drop end text));
+    component = omega (arith, component.at.same);
     within = component.at.within;
   } where
     alone : (bytes : List ℕ) → length bytes ≤ 1
@@ -226,148 +225,122 @@ module _ {text : List ℕ} {first end : ℕ} (capacity : ℕ) (component : IsCom
     alone (byte ∷ []) few = refl
     alone (byte ∷ next ∷ bytes) few = absurd (omega arith)
 
-module _ {capacity : ℕ} {text before : List ℕ} {end : ℕ} (read : AreRead capacity text before end) where
+module _ {capacity : ℕ} {front : List ℕ} {offset : ℕ} {text before : List ℕ} {end : ℕ} (read : AreRead capacity front offset text before end) where
   -- a dot is left, so the last component is empty
-  pub dot_left : end + 1 ≡ length text → IsFoundAt capacity text TrailingDot end
-  dot_left last =
-      let index : length before - 1 ≡ component_at text end = omega (arith, read.component) in
-      record {
-        found = read.found
-            ∙ rw (drop_more text end 0 (omega arith), drop_all (end + 1) text (omega arith)) (ap (λ n. Err (TrailingDot, n)) index);
-        within = read.within;
-      }
+  pub dot_left : end + 1 ≡ length text → IsFoundAfter capacity front offset text TrailingDot end
+  dot_left last = record {
+    index = length before - 1;
+    found = read.found ∙ rw (drop_more text end 0 (omega arith), drop_all (end + 1) text (omega arith)) refl;
+    component = omega (arith, read.component);
+    within = read.within;
+  }
 
   module _ (less : end + 1 < length text) where
-    next_component : component_at text (end + 1) ≡ length before
+    next_component : length before ≡ component_at text (end + 1) + offset
     next_component = omega (arith, component_next text end (omega arith) (read.dotted (omega arith)), read.component)
 
-    next_found : text_found capacity text ≡ components_found capacity before (components_of (drop (end + 1) text))
+    next_found : text_found capacity (front ++ text) ≡ components_found capacity before (components_of (drop (end + 1) text))
     next_found = read.found ∙ rw (drop_more text end 0 (omega arith), drop_more text (end + 1) 0 less) refl
 
-    pub wrong_component : {fault : Error} {place : ℕ} → HasFault text (end + 1) fault place → IsFoundAt capacity text fault place
-    wrong_component {fault} has = record {
-      found = next_found ∙ has.is capacity before (some_arc before read.component)
-          ∙ ap (λ n. Err (fault, n)) (sym (has.at.same ∙ next_component));
+    pub wrong_component : {fault : Error} {place : ℕ} → HasFault text (end + 1) fault place
+        → IsFoundAfter capacity front offset text fault place
+    wrong_component has = record {
+      index = length before;
+      found = next_found ∙ has.is capacity before (some_arc before read.component);
+      component = omega (arith, next_component, has.at.same);
       within = has.at.within;
     } where
-      some_arc : (arcs : List ℕ) → component_at text end + 1 ≡ length arcs → is_empty arcs ≡ (end + 1 == 0)
+      some_arc : (arcs : List ℕ) → component_at text end + offset + 1 ≡ length arcs → is_empty arcs ≡ (end + 1 == 0)
       some_arc [] none = absurd (omega arith)
       some_arc (arc ∷ arcs) some = grind (arith, nat_tests)
 
     module _ {arc place : ℕ} (component : IsComponent text (end + 1) arc place) where
-      pub this_component : component_at text place ≡ length before
-      this_component = component.at.same ∙ next_component
+      pub this_component : length before ≡ component_at text place + offset
+      this_component = omega (arith, component.at.same, next_component)
 
-      pub component_found : text_found capacity text
+      pub component_found : text_found capacity (front ++ text)
           ≡ arc_found capacity before arc (drop place text) (arc_fault root_rule capacity before arc)
       component_found = next_found ∙ component.same capacity before
 
       pub wrong_arc : {fault : Error} → arc_fault root_rule capacity before arc ≡ Some fault
-          → IsFoundAt capacity text (or_trailing fault (drop place text)) place
-      wrong_arc has = record { found = component_found ∙ rw (has, this_component) refl; within = component.at.within }
-
--- the octets are the encoding of the arcs of the components that end at an index or before
-pub record IsReadTo (capacity : ℕ) (text octets : List ℕ) (end : ℕ) : Type 0 where
-  pub encoding : IsEncoding root_rule (arcs_of_octets octets) octets
-  pub arcs : AreRead capacity text (arcs_of_octets octets) end
-
--- what becomes of them by a component, whose group is appended or does not fit
-abbrev pub BecomesBy : {X : Type 0} → ℕ → List ℕ → List ℕ → ℕ → Result X Error → Type 0
-BecomesBy capacity text longer end result = MatchResult result (λ _. IsReadTo capacity text longer end)
-    (λ fault. IsFoundAt capacity text (or_trailing fault (drop end text)) end)
-
-module _ {X : Type 0} (capacity : ℕ) (text longer : List ℕ) where
-  becomes : {before octets : List ℕ} {arc number : ℕ} (end : ℕ) → Encodes root_rule octets before arc number
-      → text_found capacity text
-      ≡ arc_found capacity before arc (drop end text) (arc_fault root_rule capacity before arc)
-      → component_at text end ≡ length before → end ≤ length text → (end < length text → get_or text end 0 ≡ 46)
-      → (result : Result X Error) → IsAppended capacity number octets longer result
-      → BecomesBy capacity text longer end result
-  becomes {octets} {number} end encodes found component within dotted (Ok done) (fits, on) =
-      let none = encodes.fault capacity ∙ none_from_below capacity (length octets + width number) Length fits in
-      let encoding = encodes.step longer on in
-      record {
-        encoding = encoding_back encoding;
-        arcs = record {
-          found = found ∙ rw (none, arcs_of_encoding encoding) refl;
-          component = rw (arcs_of_encoding encoding) (grind (arith, length-append));
-          within = within;
-          dotted = dotted;
-        };
+          → IsFoundAfter capacity front offset text (or_trailing fault (drop place text)) place
+      wrong_arc has = record {
+        index = length before;
+        found = component_found ∙ rw has refl;
+        component = this_component;
+        within = component.at.within;
       }
-  becomes {octets} {number} end encodes found component within dotted (Err fault) (is, long, same) = record {
-    found = found ∙ rw (encodes.fault capacity, some_from_above capacity (length octets + width number) Length long, is, component) refl;
-    within = within;
-  }
-
-  pub root_becomes : {number end : ℕ} → IsRoot text number end → (result : Result X Error)
-      → IsAppended capacity number [] longer result → BecomesBy capacity text longer end result
-  root_becomes {end} root result appended =
-      becomes end (root_encodes root_rule root.first root.second root.low root.high) (root.same capacity) root.component
-      root.within root.dotted result (rw root.number at appended)
-
-  pub later_becomes : {octets : List ℕ} {arc place end : ℕ} → IsReadTo capacity text octets place
-      → place + 1 < length text → IsComponent text (place + 1) arc end → (result : Result X Error)
-      → IsAppended capacity arc octets longer result → BecomesBy capacity text longer end result
-  later_becomes {octets} {arc} {end} read less component =
-      becomes end (later_encodes root_rule octets (arcs_of_octets octets) arc read.encoding component.small)
-      (component_found read.arcs less component) (this_component read.arcs less component) component.at.within component.dotted
 
 -- ---- octets in a slice
 
--- if it has the capacity, its first octets encode the arcs of the components that end at an index or before
-pub record IsWrittenTo (capacity : ℕ) (text old new : List ℕ) (used end : ℕ) : Type 0 where
-  pub octets : List ℕ
-  pub read : IsReadTo capacity text octets end
-  pub long : used ≡ length octets
-  pub fits : used ≤ capacity
-  pub begins : capacity ≤ length old → new ≡ written_over octets old
+-- what becomes of those that are written by a component, whose group is appended or does not fit
+abbrev pub WrittenBy : ℕ → List ℕ → ℕ → List ℕ → List ℕ → List ℕ → ℕ → Result ℕ Error → Type 0
+WrittenBy capacity front offset text old new end result =
+    MatchResult result (λ used. IsWrittenTo capacity front offset text old new used end)
+    (λ fault. IsFoundAfter capacity front offset text (or_trailing fault (drop end text)) end)
 
--- what becomes of it by a component, whose group is appended or does not fit
-abbrev pub WrittenBy : ℕ → List ℕ → List ℕ → List ℕ → ℕ → Result ℕ Error → Type 0
-WrittenBy capacity text old new end result = MatchResult result (λ used. IsWrittenTo capacity text old new used end)
-    (λ fault. IsFoundAt capacity text (or_trailing fault (drop end text)) end)
-
-module _ (capacity : ℕ) (text old : List ℕ) where
-  written_by : {number : ℕ} {octets new : List ℕ} (end : ℕ) (result : Result ℕ Error)
-      → (longer : IsLonger capacity number octets old new result) → BecomesBy capacity text longer.more end result
-      → WrittenBy capacity text old new end result
-  written_by end (Ok used) longer read = record {
-    octets = longer.more;
-    read = read;
-    long = longer.long.0;
-    fits = longer.long.1;
-    begins = longer.begins;
+module _ (capacity : ℕ) (front : List ℕ) (offset : ℕ) (text old : List ℕ) where
+  written_by : {before octets new : List ℕ} {arc number end : ℕ} → Encodes root_rule octets before arc number
+      → text_found capacity (front ++ text)
+      ≡ arc_found capacity before arc (drop end text) (arc_fault root_rule capacity before arc)
+      → length before ≡ component_at text end + offset → end ≤ length text → (end < length text → get_or text end 0 ≡ 46)
+      → length new ≡ length old → (result : Result ℕ Error) → IsLonger capacity number octets old new result
+      → WrittenBy capacity front offset text old new end result
+  written_by {before} {octets} {arc} {number} encodes is component within dotted same (Ok used) longer =
+      let none = encodes.fault capacity ∙ none_from_below capacity (length octets + width number) Length longer.appended.0 in
+      let encoding = encodes.step longer.more longer.appended.1 in
+      record {
+        octets = longer.more;
+        encoding = encoding_back encoding;
+        arcs = record {
+          found = is ∙ rw (none, arcs_of_encoding encoding) refl;
+          component = rw (arcs_of_encoding encoding) (omega (arith, component, length-append before (arc ∷ [])));
+          within = within;
+          dotted = dotted;
+        };
+        same = same;
+        long = longer.long.0;
+        fits = longer.long.1;
+        begins = longer.begins;
+      }
+  written_by {before} {octets} {number} encodes is component within dotted same (Err fault) longer = record {
+    index = length before;
+    found = is ∙ rw (encodes.fault capacity, some_from_above capacity (length octets + width number) Length longer.appended.1, longer.appended.0) refl;
+    component = component;
+    within = within;
   }
-  written_by end (Err fault) longer read = read
-
-  pub root_written : {number end : ℕ} (longer : List ℕ) → IsRoot text number end → (result : Result ℕ Error)
-      → AppendsTo capacity number 0 old longer result → WrittenBy capacity text old longer end result
-  root_written {number} {end} longer root result appends =
-      let more = longer_by {number = number} {octets = []} {old = old} longer refl refl (λ room. refl) result appends in
-      written_by end result more (root_becomes capacity text more.more root result more.appended)
 
   pub later_written : {new : List ℕ} {used arc place end : ℕ} (longer : List ℕ)
-      → IsWrittenTo capacity text old new used place → length new ≡ length old → place + 1 < length text
+      → IsWrittenTo capacity front offset text old new used place → length longer ≡ length new → place + 1 < length text
       → IsComponent text (place + 1) arc end → (result : Result ℕ Error) → AppendsTo capacity arc used new longer result
-      → WrittenBy capacity text old longer end result
-  later_written {arc} {end} longer written same less component result appends =
-      let more = longer_by {number = arc} longer written.long same written.begins result appends in
-      written_by end result more (later_becomes capacity text more.more written.read less component result more.appended)
+      → WrittenBy capacity front offset text old longer end result
+  later_written {arc} longer written same less component result appends =
+      let more = longer_by {number = arc} longer written.long written.same written.begins result appends in
+      written_by (later_encodes root_rule written.octets (arcs_of_octets written.octets) arc written.encoding component.small)
+      (component_found written.arcs less component) (this_component written.arcs less component)
+      component.at.within component.dotted (same ∙ written.same) result more
+
+pub root_written : {text : List ℕ} {number end : ℕ} (capacity : ℕ) (old longer : List ℕ) → IsRoot text number end
+    → length longer ≡ length old → (result : Result ℕ Error)
+    → AppendsTo capacity number 0 old longer result → WrittenBy capacity [] 0 text old longer end result
+root_written {text} {number} capacity old longer root same result appends =
+    let more = longer_by {number = number} {octets = []} {old = old} longer refl refl (λ room. refl) result appends in
+    written_by capacity [] 0 text old (rw (← root.number) at (root_encodes root_rule root.first root.second root.low root.high))
+    (root.same capacity) (omega (arith, root.component)) root.within root.dotted same result more
 
 -- all components are read
-pub all_written : {capacity : ℕ} {text old new : List ℕ} {used end : ℕ} → IsWrittenTo capacity text old new used end
-    → length text ≤ end → IsEncodedIn capacity (text_answer root_rule text capacity) old new used
-all_written {capacity} {text} {end} written last =
+pub all_written : {capacity : ℕ} {front : List ℕ} {offset : ℕ} {text old new : List ℕ} {used end : ℕ}
+    → IsWrittenTo capacity front offset text old new used end → length text ≤ end
+    → IsEncodedIn capacity (text_answer root_rule (front ++ text) capacity) old new used
+all_written {capacity} {front} {text} {end} written last =
     let octets = written.octets in
-    let arcs = written.read.arcs in
     record {
       octets = octets;
-      encoding = written.read.encoding;
+      encoding = written.encoding;
       answer =
-          let none = enough (arcs_of_octets octets) written.read.encoding.identifier in
-          let found : text_found capacity text ≡ Ok (arcs_of_octets octets) = arcs.found ∙ rw (drop_all end text last) none in
-          sym (same_text capacity text) ∙ rw found refl;
+          let none = enough (arcs_of_octets octets) written.encoding.identifier in
+          let found : text_found capacity (front ++ text) ≡ Ok (arcs_of_octets octets) = written.arcs.found ∙ rw (drop_all end text last) none in
+          sym (same_text capacity (front ++ text)) ∙ rw found refl;
       long = written.long;
       within = written.fits;
       begins = written.begins;

@@ -21,7 +21,7 @@ pub root_short : (rule : RootRule) (n : ℕ) → n ≤ max_first rule → width 
 root_short Narrow n h = (width_is n).least 5 (omega arith) (omega arith)
 root_short Wide n h = (width_is n).least 5 (omega arith) (omega arith)
 
-length-groups : (numbers : List ℕ) (gs : List (List ℕ)) → AllZip IsGroup numbers gs
+pub length-groups : (numbers : List ℕ) (gs : List (List ℕ)) → AllZip IsGroup numbers gs
     → length (concat gs) ≡ sum_by width numbers
 length-groups [] [] p = refl
 length-groups (n ∷ ns) (g ∷ gs) p = rw (length-append, length_is p.0, length-groups ns gs p.1, sum_by-cons width n ns)

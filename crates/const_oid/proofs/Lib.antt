@@ -29,6 +29,7 @@ pub mod Started
 mod Stripped
 pub mod Appended
 pub mod Components
+pub mod FoundAfter
 pub mod PartBounds
 pub mod Parents
 pub mod Prefixes

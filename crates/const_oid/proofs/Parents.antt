@@ -3,7 +3,7 @@ use Rattle.std.proofs.Common.{◌≡◌, ◌≢◌, ℕ, zero, suc, ◌-◌, ◌
 use Rattle.std.proofs.Common.{slice_index, Some, None, refl, sym, ap, ◌∙◌, arith, lt-ltb, length-append, rules}
 use Rattle.std.specs.{Prelude.◌↔◌, List.{onto_first, concat}}
 use Rattle.std.proofs.Math.Seq.{take-append_seam}
-use Rattle.std.proofs.lemmas.{List.{length-map, length-take-le, take-map, take-append-drop}, List.Folds.concat-append}
+use Rattle.std.proofs.lemmas.{List.{length-map, length-take-le, take-append-le, take-map, take-append-drop}, List.Folds.concat-append}
 use Rattle.std.proofs.lemmas.{Bool.Decides.nat_tests, Grind.common_steps}
 use Rattle.const_oid.specs.{Base128.value_of, Identifier.{RootRule, IsEncoding}}
 use Rattle.const_oid.specs.Contents.{cut, cut_after, later_fault, parts_fault, arcs_from, arcs_of_octets}
@@ -53,6 +53,14 @@ parts_without_last octets prefix before octet is finished =
     let (last, parts) = cut_push prefix octet (length before) (omega (arith, ap length begins, length-append before rest))
     finished.ends finished.last in
     search (arith, same, parts, but_last)
+
+-- they are all before the octets of 128 or more that the last part begins with
+pub parts_before : (octets prefix : List ℕ) (octet start : ℕ) → octets ≡ prefix ++ octet ∷ [] → start ≤ length prefix
+    → ((k : ℕ) → start ≡ suc k → slice_index prefix k < 128) → AreHigh prefix start → IsWithoutLast octets (take start octets)
+parts_before octets prefix octet start is within final high =
+    let begins : take start octets ≡ take start prefix = rw is (take-append-le start prefix (octet ∷ []) within) in
+    let (last, parts) = cut_push prefix octet start within final high in
+    rw begins (search (arith, is, parts, but_last))
 
 -- which are all but the last one
 pub but_last_octet : (octets prefix : List ℕ) (octet : ℕ) → octets ≡ prefix ++ octet ∷ []

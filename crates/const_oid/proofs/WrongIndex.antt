@@ -58,12 +58,16 @@ module _ (capacity : ℕ) where
       first_index _ _ (length before) _ _ (component_else before component after) other
       (index_from_found (before ++ number_of component ∷ []) after other) found
 
+  pub answer_from_found : (text : List ℕ) {fault : Error} {index : ℕ} → text_found capacity text ≡ Err (fault, index)
+      → text_answer root_rule text capacity ≡ Err fault
+  answer_from_found text found = sym (same_text text) ∙ ap without_index found
+
   pub fault_at : {text : List ℕ} {fault : Error} {place : ℕ} → IsFoundAt capacity text fault place
       → IsFaultAt capacity text fault place
-  fault_at {text} {fault} is = record {
-    answer = sym (same_text text) ∙ ap without_index is.found;
+  fault_at {text} is = record {
+    answer = answer_from_found text is.found;
     within = is.within;
-    component = λ other. index_from_found [] (components_of text) other is.found;
+    component = λ other. omega (arith, is.component, index_from_found [] (components_of text) other is.found);
   }
 
 -- at a capacity of as many octets as the text has bytes

@@ -1,5 +1,5 @@
 -- Dotted text. The components of a text stand between its dots.
-use Rattle.std.specs.Prelude.{◌≡◌, ℕ, ◌-◌, ◌<◌, Bool, true, false, not, List, [], ◌∷◌, ◌++◌, length, map, decimal, nat_lt, ◌==◌, if◌then◌else◌, Option, Result, take_while, find}
+use Rattle.std.specs.Prelude.{◌≡◌, ℕ, ◌-◌, ◌<◌, Bool, true, false, not, List, [], ◌∷◌, ◌++◌, length, map, decimal, nat_lt, slice_index, ◌==◌, if◌then◌else◌, Option, Result, take_while, find}
 use Rattle.std.specs.List.{slice_split, join_with_byte, AllByRecursion}
 use Rattle.std.specs.Str.{all_ascii_digits}
 use Rattle.std.specs.Option.{option_or, option_map, option_map_or}
@@ -18,6 +18,10 @@ dot = 46
 -- the arcs' decimals, joined by dots
 abbrev pub text_of : List ℕ → List ℕ
 text_of arcs = join_with_byte dot (map decimal arcs)
+
+-- nothing, or a dot and more: what may follow an arc
+abbrev pub FollowsArc : List ℕ → Type 0
+FollowsArc text = 0 < length text → slice_index text 0 ≡ dot
 
 -- the components
 abbrev pub components_of : List ℕ → List (List ℕ)

@@ -6,10 +6,11 @@ ghost use Rattle.std.specs.Cmp.{on_equiv, on_per, on_po, on_total, partial_equiv
 ghost use Rattle.std.specs.Cmp.Lexicographic.{pointwise, nat_list_eq_equiv};
 ghost use Rattle.const_oid.specs.Base128.{AreOctets, width};
 ghost use Rattle.std.specs.Iterator.{IsFiniteIterable};
-ghost use Rattle.const_oid.specs.Identifier.{root_rule};
+ghost use Rattle.const_oid.specs.Contents.{arcs_of_octets};
+ghost use Rattle.const_oid.specs.Identifier.{root_rule, IsEncoding};
 ghost use Rattle.const_oid.specs.Items.{TakesItems};
 ghost use Rattle.const_oid.specs.Private.Octets.{GoesOn};
-ghost use Rattle.const_oid.specs.Text.{text_answer};
+ghost use Rattle.const_oid.specs.Text.{text_answer, text_of, FollowsArc};
 
 use crate::Arc;
 use crate::base128::append_group;
@@ -18,7 +19,7 @@ use crate::error::{Error, Result};
 use crate::fast::comparison::{are_arrays_equal, order};
 // erase: omit
 use crate::fast::copies::copy_to;
-use crate::parser::{fault_of, parse_inlined};
+use crate::parser::{fault_of, long_fault, parse_inlined, parse_later};
 use std::cmp::Ordering;
 use std::hash::{Hash, Hasher};
 
@@ -82,6 +83,29 @@ impl<const SIZE: usize> Buffer<SIZE> {
         }
     }
 
+    /// The encoding of the identifier with the arcs of valid octets and then those of a text, each after a dot.
+    // erase: const
+    #[inline(always)]
+    pub(crate) fn parsed_below(above: &[u8], text: &[u8]) -> Result<Self>
+        requires valid { IsEncoding root_rule (arcs_of_octets above.now) above.now }
+        requires follows { FollowsArc text.now }
+        ensures answer { buffer_answer result ≡ text_answer root_rule (text_of (arcs_of_octets above.now) ++ text.now) (min SIZE 255) }
+        ensures encoding { HasEncoding result }
+    {
+        let capacity = Self::capacity();
+        if above.len() > capacity {
+            return Err(long_fault(above, text, capacity));
+        }
+        let mut buffer = Buffer::copied(above);
+        match parse_later(text, 0, &mut buffer.bytes, above.len(), capacity) {
+            Ok(len) => {
+                buffer.used = len as u8;
+                Ok(buffer)
+            }
+            Err(wrong) => Err(fault_of(text, wrong).0),
+        }
+    }
+
     /// The encoding of the arcs that an iterator gives.
     #[tactic(auto, using(crate::proofs::Appended::buffered))]
     pub(crate) fn encoded<I: IntoIterator<Item = Arc>>(arcs: I) -> Result<Self>
@@ -100,6 +124,7 @@ impl<const SIZE: usize> Buffer<SIZE> {
     }
 
     /// The octets copied, which fit.
+    // erase: const
     #[inline(always)]
     pub(crate) fn copied(octets: &[u8]) -> Self
         requires { length octets.now ≤ min SIZE 255 }

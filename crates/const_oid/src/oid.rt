@@ -11,7 +11,7 @@ ghost use Rattle.const_oid.specs.Buffer.{buffer_octets};
 ghost use Rattle.const_oid.specs.Contents.{cut, parts_fault, octet_answer};
 ghost use Rattle.const_oid.specs.Element.{element};
 ghost use Rattle.const_oid.specs.Output.{Returns, Writes};
-ghost use Rattle.const_oid.specs.Text.{text_of, text_fault, text_answer, Denotes};
+ghost use Rattle.const_oid.specs.Text.{text_of, text_fault, text_answer, Denotes, FollowsArc};
 ghost use Rattle.const_oid.specs.Identifier.{root_rule, default_capacity, IsEncoding, size};
 ghost use Rattle.const_oid.specs.Items.{TakesItems};
 ghost use Rattle.const_oid.specs.Tree.{BeginsWith, child_of, parent_of};
@@ -266,6 +266,18 @@ impl<const MAX_SIZE: usize> ObjectIdentifier<MAX_SIZE> {
         ensures denoted { IfOk result (λ oid. Denotes root_rule text.now (oid_arcs oid)) }
     {
         match Buffer::parsed(text) {
+            Ok(ber) => Ok(ObjectIdentifier { ber }),
+            Err(fault) => Err(fault),
+        }
+    }
+
+    /// The identifier with the arcs of another one and then those of a text, each after a dot.
+    // erase: const
+    pub(crate) fn parse_below(above: &Oid, text: &[u8]) -> Result<Self>
+        requires { FollowsArc text.now }
+        ensures { oid_answer result ≡ text_answer root_rule (text_of (oid_arcs above.now) ++ text.now) (min MAX_SIZE 255) }
+    {
+        match Buffer::parsed_below(above.as_bytes(), text) {
             Ok(ber) => Ok(ObjectIdentifier { ber }),
             Err(fault) => Err(fault),
         }

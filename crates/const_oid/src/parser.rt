@@ -3,17 +3,19 @@
 //! A text is read component by component. If one is wrong, only an index is returned, and a function that is rarely
 //! called makes the error of it. So a valid text costs fewer instructions.
 
-ghost use Rattle.std.specs.Prelude.{◌≡◌, ◌≢◌, ◌<◌, ◌≤◌, ℕ, drop, length, Err, IfErr, MatchOption, MatchResult};
+ghost use Rattle.std.specs.Prelude.{◌≡◌, ◌≢◌, ◌<◌, ◌≤◌, ℕ, List, ◌++◌, drop, length, Err, IfErr, MatchOption, MatchResult};
 ghost use Rattle.const_oid.specs.Output.{IsEncodedIn, WritesEncoding};
-ghost use Rattle.const_oid.specs.Private.Parser.{error_of, place_of, HasFault, IsFaultAt, IsFoundAt, IsComponent, IsRoot, NeedsNoStart};
-ghost use Rattle.const_oid.specs.Identifier.{root_rule};
+ghost use Rattle.const_oid.specs.Private.Parser.{error_of, place_of, HasFault, IsFaultAt, IsFoundAfter, IsFoundAt, IsComponent, IsRoot, IsWrittenTo, NeedsNoStart};
+ghost use Rattle.const_oid.specs.Contents.{arcs_of_octets};
+ghost use Rattle.const_oid.specs.Identifier.{root_rule, IsEncoding};
 ghost use Rattle.const_oid.specs.Stop.{component_at, or_trailing, stop_fault};
-ghost use Rattle.const_oid.specs.Text.{text_answer};
+ghost use Rattle.const_oid.specs.Text.{text_answer, text_of, FollowsArc};
 
 use crate::Arc;
 use crate::base128::append_group;
 use crate::error::{Error, Result};
 use crate::fast::lanes::count_below;
+use crate::parts::last_part;
 use crate::root::{check_first, join_root};
 use std::result;
 
@@ -105,14 +107,33 @@ pub(crate) fn parse_inlined(
         (λ wrong. IsFaultAt capacity text.now (error_of text.now wrong) (place_of wrong) × NeedsNoStart text.now wrong) }
     ensures kept { length out.old < capacity → out.new ≡ out.old }
 {
-    let (number, mut end) = match read_root(text) {
+    let (number, end) = match read_root(text) {
         Ok(root) => root,
         Err(wrong) => return Err(wrong),
     };
-    let mut used = match append_group(out, 0, number, capacity) {
-        Ok(used) => used,
-        Err(fault) => return Err(Wrong::Value { fault, end }),
-    };
+    match append_group(out, 0, number, capacity) {
+        Ok(used) => parse_later(text, end, out, used, capacity),
+        Err(fault) => Err(Wrong::Value { fault, end }),
+    }
+}
+
+/// Appends the octets of the components after the dot at `end`, if there is one, to the first `used` octets of a slice, if
+/// they fit a capacity, and returns how many there are.
+// erase: const
+#[inline(always)]
+pub(crate) fn parse_later(
+    text: &[u8],
+    mut end: usize,
+    out: &mut [u8],
+    mut used: usize,
+    capacity: usize,
+) -> result::Result<usize, Wrong>
+    requires { end ≤ length text.now }
+    ensures answer { (front old : List ℕ) (offset : ℕ) → IsWrittenTo capacity front offset text.now old out.old used end
+        → MatchResult result (IsEncodedIn capacity (text_answer root_rule (front ++ text.now) capacity) old out.new)
+        (λ wrong. IsFoundAfter capacity front offset text.now (error_of text.now wrong) (place_of wrong) × NeedsNoStart text.now wrong) }
+    ensures kept { length out.old < capacity → out.new ≡ out.old }
+{
     while end + 1 < text.len() {
         let start = end + 1;
         let (arc, after) = match read_component(text, start) {
@@ -236,5 +257,23 @@ const fn or_trailing_dot(fault: Error, text: &[u8], end: usize) -> Error
         Error::TrailingDot
     } else {
         fault
+    }
+}
+
+/// The error of the text of valid octets, which do not fit a capacity, and another text after it: `Length`, or
+/// `TrailingDot` if only the last arc does not fit, and an empty last component follows it.
+// erase: const
+#[cold]
+#[inline(never)]
+pub(crate) fn long_fault(octets: &[u8], text: &[u8], capacity: usize) -> Error
+    requires valid { IsEncoding root_rule (arcs_of_octets octets.now) octets.now }
+    requires long { capacity < length octets.now }
+    requires follows { FollowsArc text.now }
+    ensures { text_answer root_rule (text_of (arcs_of_octets octets.now) ++ text.now) capacity ≡ Err result }
+{
+    if capacity < last_part(octets) {
+        Error::Length
+    } else {
+        or_trailing_dot(Error::Length, text, 0)
     }
 }

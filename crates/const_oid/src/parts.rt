@@ -40,6 +40,22 @@ pub(crate) fn without_last_part(octets: &[u8]) -> &[u8]
     }
 }
 
+/// Where the last subidentifier begins.
+// erase: const
+pub(crate) fn last_part(octets: &[u8]) -> usize
+    ensures within { result ≤ length octets.now }
+    ensures parts { let parts = cut octets.now in cut (take result octets.now) ≡ take (length parts - 1) parts }
+{
+    let Some((_, prefix)) = octets.split_last() else {
+        return 0;
+    };
+    let mut start = prefix.len();
+    while start > 0 && prefix[start - 1] >= CONTINUED {
+        start -= 1;
+    }
+    start
+}
+
 /// The first `len` octets.
 #[inline(always)]
 pub(crate) fn first_octets(octets: &[u8], len: usize) -> &[u8]
@@ -51,6 +67,7 @@ pub(crate) fn first_octets(octets: &[u8], len: usize) -> &[u8]
 }
 
 /// Copies octets to the start of `out`, as `fast::copies::copy_to` does. The cargo crate alone calls it, for less code.
+// erase: const
 #[inline(always)]
 pub(crate) fn copy_by_octet(octets: &[u8], out: &mut [u8])
     requires { length octets.now ≤ length out.old }

@@ -5,7 +5,7 @@ use Rattle.const_oid.specs.declared.error.Error.{Error}
 use Rattle.const_oid.specs.declared.error.Error.TheVariants.{Length, TrailingDot}
 use Rattle.const_oid.specs.declared.parser.Wrong.{Wrong}
 use Rattle.const_oid.specs.declared.parser.Wrong.TheVariants.{Component, Value}
-use Rattle.const_oid.specs.{Identifier.{root_rule, max_arc, max_second}, Items.{arc_fault, too_few_fault}}
+use Rattle.const_oid.specs.{Contents.arcs_of_octets, Identifier.{root_rule, max_arc, max_second, IsEncoding}, Items.{arc_fault, too_few_fault}, Output.written_over}
 use Rattle.const_oid.specs.Stop.{component_at, or_trailing, stop_fault}
 use Rattle.const_oid.specs.Text.{dot, is_empty, number_of, component_fault, components_of, text_answer, wrong_index}
 
@@ -56,10 +56,17 @@ pub record IsFaultAt (capacity : ℕ) (text : List ℕ) (fault : Error) (place :
   pub within : place ≤ length text
   pub component : fault ≢ Length → component_at text place ≡ wrong_index [] (components_of text)
 
--- the first fault of a text at a capacity is that of the component at a place
-pub record IsFoundAt (capacity : ℕ) (text : List ℕ) (fault : Error) (place : ℕ) : Type 0 where
-  pub found : text_found capacity text ≡ Err (fault, component_at text place)
+-- the first fault of two texts joined, at a capacity, is that of the component at a place of the second one, whose first
+-- component has an index in both
+pub record IsFoundAfter (capacity : ℕ) (front : List ℕ) (offset : ℕ) (text : List ℕ) (fault : Error) (place : ℕ) : Type 0 where
+  pub index : ℕ
+  pub found : text_found capacity (front ++ text) ≡ Err (fault, index)
+  pub component : index ≡ component_at text place + offset
   pub within : place ≤ length text
+
+-- the first fault of a text at a capacity is that of the component at a place
+abbrev pub IsFoundAt : ℕ → List ℕ → Error → ℕ → Type 0
+IsFoundAt capacity text fault place = IsFoundAfter capacity [] 0 text fault place
 
 -- a place is in the component that starts at an index
 pub record IsWithin (text : List ℕ) (start place : ℕ) : Type 0 where
@@ -94,3 +101,20 @@ pub record IsRoot (text : List ℕ) (root end : ℕ) : Type 0 where
   pub component : component_at text end ≡ 1
   pub within : end ≤ length text
   pub dotted : end < length text → get_or text end 0 ≡ dot
+
+-- the components of two texts joined that end at an index of the second one or before are arcs, without a fault
+pub record AreRead (capacity : ℕ) (front : List ℕ) (offset : ℕ) (text before : List ℕ) (end : ℕ) : Type 0 where
+  pub found : text_found capacity (front ++ text) ≡ found_after capacity before (drop end text)
+  pub component : component_at text end + offset + 1 ≡ length before
+  pub within : end ≤ length text
+  pub dotted : end < length text → get_or text end 0 ≡ dot
+
+-- if an output has the capacity, its first octets encode these arcs
+pub record IsWrittenTo (capacity : ℕ) (front : List ℕ) (offset : ℕ) (text old new : List ℕ) (used end : ℕ) : Type 0 where
+  pub octets : List ℕ
+  pub encoding : IsEncoding root_rule (arcs_of_octets octets) octets
+  pub arcs : AreRead capacity front offset text (arcs_of_octets octets) end
+  pub same : length new ≡ length old
+  pub long : used ≡ length octets
+  pub fits : used ≤ capacity
+  pub begins : capacity ≤ length old → new ≡ written_over octets old

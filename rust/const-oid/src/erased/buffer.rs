@@ -7,7 +7,7 @@ use crate::erased::base128::append_group;
 use crate::erased::encoder::encode_inlined;
 use crate::erased::error::{Error, Result};
 use crate::erased::fast::comparison::{are_arrays_equal, order};
-use crate::erased::parser::{fault_of, parse_inlined};
+use crate::erased::parser::{fault_of, long_fault, parse_inlined, parse_later};
 use core::cmp::Ordering;
 use core::hash::{Hash, Hasher};
 
@@ -52,6 +52,23 @@ impl<const SIZE: usize> Buffer<SIZE> {
         }
     }
 
+    /// The encoding of the identifier with the arcs of valid octets and then those of a text, each after a dot.
+    #[inline(always)]
+    pub(crate) const fn parsed_below(above: &[u8], text: &[u8]) -> Result<Self> {
+        let capacity = Self::capacity();
+        if above.len() > capacity {
+            return Err(long_fault(above, text, capacity));
+        }
+        let mut buffer = Buffer::copied(above);
+        match parse_later(text, 0, &mut buffer.bytes, above.len(), capacity) {
+            Ok(len) => {
+                buffer.used = len as u8;
+                Ok(buffer)
+            }
+            Err(wrong) => Err(fault_of(text, wrong).0),
+        }
+    }
+
     /// The encoding of the arcs that an iterator gives.
     pub(crate) fn encoded<I: IntoIterator<Item = Arc>>(arcs: I) -> Result<Self> {
         let mut buffer = Buffer::empty();
@@ -62,7 +79,7 @@ impl<const SIZE: usize> Buffer<SIZE> {
 
     /// The octets copied, which fit.
     #[inline(always)]
-    pub(crate) fn copied(octets: &[u8]) -> Self {
+    pub(crate) const fn copied(octets: &[u8]) -> Self {
         let mut buffer = Buffer::empty();
         crate::erased::parts::copy_by_octet(octets, &mut buffer.bytes);
         buffer.used = octets.len() as u8;

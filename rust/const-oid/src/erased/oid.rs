@@ -210,6 +210,14 @@ impl<const MAX_SIZE: usize> ObjectIdentifier<MAX_SIZE> {
         }
     }
 
+    /// The identifier with the arcs of another one and then those of a text, each after a dot.
+    pub(crate) const fn parse_below(above: &Oid, text: &[u8]) -> Result<Self> {
+        match Buffer::parsed_below(above.as_bytes(), text) {
+            Ok(ber) => Ok(ObjectIdentifier { ber }),
+            Err(fault) => Err(fault),
+        }
+    }
+
     /// Encodes the arcs that an iterator gives in at most `MAX_SIZE` octets, and never more than 255. The iterator must
     /// end.
     ///

@@ -9,6 +9,7 @@ use crate::erased::Arc;
 use crate::erased::base128::append_group;
 use crate::erased::error::{Error, Result};
 use crate::erased::fast::lanes::count_below;
+use crate::erased::parts::last_part;
 use crate::erased::root::{check_first, join_root};
 use core::result;
 
@@ -73,14 +74,26 @@ pub(crate) fn parse_in_one_pass(text: &[u8], out: &mut [u8]) -> Result<usize> {
 /// Writes the encoding that a text denotes to the start of a slice, if it fits a capacity, and returns its length.
 #[inline(always)]
 pub(crate) const fn parse_inlined(text: &[u8], out: &mut [u8], capacity: usize) -> result::Result<usize, Wrong> {
-    let (number, mut end) = match read_root(text) {
+    let (number, end) = match read_root(text) {
         Ok(root) => root,
         Err(wrong) => return Err(wrong),
     };
-    let mut used = match append_group(out, 0, number, capacity) {
-        Ok(used) => used,
-        Err(fault) => return Err(Wrong::Value { fault, end }),
-    };
+    match append_group(out, 0, number, capacity) {
+        Ok(used) => parse_later(text, end, out, used, capacity),
+        Err(fault) => Err(Wrong::Value { fault, end }),
+    }
+}
+
+/// Appends the octets of the components after the dot at `end`, if there is one, to the first `used` octets of a slice, if
+/// they fit a capacity, and returns how many there are.
+#[inline(always)]
+pub(crate) const fn parse_later(
+    text: &[u8],
+    mut end: usize,
+    out: &mut [u8],
+    mut used: usize,
+    capacity: usize,
+) -> result::Result<usize, Wrong> {
     while end + 1 < text.len() {
         let start = end + 1;
         let (arc, after) = match read_component(text, start) {
@@ -182,4 +195,12 @@ const fn component_fault(text: &[u8], start: usize, index: usize) -> Error {
 #[inline(never)]
 const fn or_trailing_dot(fault: Error, text: &[u8], end: usize) -> Error {
     if end + 1 == text.len() { Error::TrailingDot } else { fault }
+}
+
+/// The error of the text of valid octets, which do not fit a capacity, and another text after it: `Length`, or
+/// `TrailingDot` if only the last arc does not fit, and an empty last component follows it.
+#[cold]
+#[inline(never)]
+pub(crate) const fn long_fault(octets: &[u8], text: &[u8], capacity: usize) -> Error {
+    if capacity < last_part(octets) { Error::Length } else { or_trailing_dot(Error::Length, text, 0) }
 }

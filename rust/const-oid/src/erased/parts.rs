@@ -31,6 +31,18 @@ pub(crate) fn without_last_part(octets: &[u8]) -> &[u8] {
     }
 }
 
+/// Where the last subidentifier begins.
+pub(crate) const fn last_part(octets: &[u8]) -> usize {
+    let Some((_, prefix)) = octets.split_last() else {
+        return 0;
+    };
+    let mut start = prefix.len();
+    while start > 0 && prefix[start - 1] >= CONTINUED {
+        start -= 1;
+    }
+    start
+}
+
 /// The first `len` octets.
 #[inline(always)]
 pub(crate) fn first_octets(octets: &[u8], len: usize) -> &[u8] {
@@ -40,7 +52,7 @@ pub(crate) fn first_octets(octets: &[u8], len: usize) -> &[u8] {
 
 /// Copies octets to the start of `out`, as `fast::copies::copy_to` does. The cargo crate alone calls it, for less code.
 #[inline(always)]
-pub(crate) fn copy_by_octet(octets: &[u8], out: &mut [u8]) {
+pub(crate) const fn copy_by_octet(octets: &[u8], out: &mut [u8]) {
     let mut index = 0;
     while index < octets.len() && index < out.len() {
         out[index] = octets[index];

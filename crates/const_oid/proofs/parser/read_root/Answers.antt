@@ -36,7 +36,7 @@ returns-in-Ok-join_root c =
       low = c.in_default.ensures;
       high = c.in-Ok-join_root.ensures.0;
       same = λ capacity. component_found (first_done capacity c.in-Ok.ensures c.in_default.ensures) (omega arith) component;
-      component = this_component (first_done 0 c.in-Ok.ensures c.in_default.ensures) (omega arith) component;
+      component = omega (arith, this_component (first_done 0 c.in-Ok.ensures c.in_default.ensures) (omega arith) component);
       within = component.at.within;
       dotted = component.dotted;
     }

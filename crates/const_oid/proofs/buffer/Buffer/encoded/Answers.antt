@@ -3,14 +3,14 @@ use Rattle.std.specs.Result.{IsErrAnd}
 use Rattle.std.proofs.lemmas.List.{drop-replicate}
 use Rattle.const_oid.specs.declared.{buffer.Buffer.Buffer, error.Error.Error}
 use Rattle.const_oid.specs.Private.Encoder.{buffer_answer}
-use Rattle.const_oid.proofs.Appended.{taken, unused}
+use Rattle.const_oid.proofs.Appended.{taken, used_first}
 use Rattle.const_oid.proofs.buffer.Buffer.encoded.Goals as goal
 
 pub invariant_of-buffer : goal.invariant_of-buffer
 invariant_of-buffer g c =
     let (it, gives, (answer, takes, is)) = c.in_ok-len.ensures in
     let end = taken {new = c.encode_inlined.new.out} is (omega arith) in
-    let zeros = unused _ _ c.empty-buffer.ensures (omega arith) c.empty-buffer.result.zeros in
+    let zeros = used_first _ _ c.empty-buffer.ensures (omega arith) c.empty-buffer.result.zeros in
     record {
       within = omega (arith, is.within);
       octets = end.octets;
