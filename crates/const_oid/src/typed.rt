@@ -13,6 +13,38 @@ use crate::error::Result;
 use crate::oid::{ObjectIdentifier, Oid};
 use crate::tables::Tables;
 
+impl Tables<'_> {
+    /// Parses what people type and paste: dotted text, a name, or a name and arcs. [`display`](Self::display) is the
+    /// way back.
+    ///
+    /// - Around all of it there may be ASCII whitespace: blanks, tabs, line feeds, form feeds and carriage returns.
+    /// - Then one prefix may come: `OID.` or `urn:oid:`, in any case, a dot, as `snmpwalk -On` prints, or a module and
+    ///   `::`, as in `IF-MIB::ifDescr.3`. A module is a letter, and then letters, digits and hyphens. It is not looked up.
+    /// - What begins with a digit is dotted text.
+    /// - Else it begins with a name, by [`by_name`](Self::by_name). A name may have dots: all of the text is tried, and
+    ///   then what is before each dot, from the last one on, up to 255 bytes. After the first name that is found come
+    ///   arcs, as in `ANSI X9.62.1`.
+    ///
+    /// # Errors
+    ///
+    /// Those of [`new_sized`](ObjectIdentifier::new_sized), of the text after the prefix, with the arcs of a name in its
+    /// place: `sysUpTime.` is [`Error::TrailingDot`](crate::Error::TrailingDot). A name that no table has is
+    /// [`Error::DigitExpected`](crate::Error::DigitExpected), as in dotted text.
+    // erase: const
+    pub fn parse<const MAX_SIZE: usize>(&self, text: &str) -> Result<ObjectIdentifier<MAX_SIZE>>
+        ensures { oid_answer result ≡ typed_answer (entries_in self.now) text.now (min MAX_SIZE 255) }
+    {
+        let text = bare(text.as_bytes());
+        if begins_with_digit(text) {
+            return ObjectIdentifier::from_ascii(text);
+        }
+        match longest_name(self, text) {
+            Some((oid, end)) => ObjectIdentifier::parse_below(oid, text.split_at(end).1),
+            None => ObjectIdentifier::from_ascii(text),
+        }
+    }
+}
+
 /// The text without blanks around it, and then without a prefix.
 // erase: const
 fn bare(text: &[u8]) -> &[u8]
