@@ -54,3 +54,4 @@ pub mod BareTexts
 pub mod Dotted
 pub mod SpeltOut
 pub mod Displayed
+pub mod Shown

@@ -4,6 +4,7 @@
 
 use crate::erased::db::Database;
 use crate::erased::oid::Oid;
+use crate::erased::oid_ref::ObjectIdentifierRef;
 
 /// Tables of names, which are asked in their order.
 #[derive(Copy, Clone)]
@@ -27,5 +28,26 @@ impl<'a> Tables<'a> {
             left = rest;
         }
         None
+    }
+
+    /// The name of an identifier in the first table that has one, or `None`.
+    #[must_use]
+    pub const fn by_oid(&self, oid: &Oid) -> Option<&'a str> {
+        let mut left = self.0;
+        while let [table, rest @ ..] = left {
+            if let Some(name) = table.by_oid(oid) {
+                return Some(name);
+            }
+            left = rest;
+        }
+        None
+    }
+
+    /// The name that is shown for an identifier of any length: its first one, if it leads back, or `None`.
+    pub(crate) fn shown(&self, oid: &ObjectIdentifierRef) -> Option<&'a str> {
+        let oid = Oid::try_from_ref(oid).ok()?;
+        let name = self.by_oid(&oid)?;
+        let other = self.by_name(name)?;
+        if other.eq_last_first(&oid) { Some(name) } else { None }
     }
 }
