@@ -7,7 +7,9 @@ use Rattle.std.proofs.lemmas.Bool.Decides.{nat_tests}
 use Rattle.const_oid.specs.Identifier.{RootRule, Narrow, Wide, max_arc, max_second, IsIdentifier, size}
 use Rattle.const_oid.specs.{Items.arc_fault, Text.{Denotes, strip_component, strip, text_answer}}
 use Rattle.const_oid.specs.Text.{dot, text_of, components_of, number_of, component_fault, components_fault, text_fault, IsNumber}
-use Rattle.const_oid.specs.Private.Text.{arc_text}
+use Rattle.std.proofs.lemmas.List.Concat.{flat_map-cons}
+use Rattle.const_oid.specs.Private.Text.{arc_text, arcs_text}
+use Rattle.const_oid.specs.Typed.{dotted}
 use Rattle.const_oid.proofs.{Decimals.arc_text_ascii, Lists.{append-cons, all_at}, Faults.both_none}
 use Rattle.const_oid.proofs.Items.{IsBegun, begun_more, arc_none, few_none, whole_from_begun}
 use Rattle.const_oid.proofs.Numbers.{find-none, digits_from_find, undotted, decimal_is, number_of-decimal}
@@ -154,6 +156,27 @@ length-text_left is_first arc arcs = search (text_left-cons, length-append)
 pub text_left-nil : (is_first : Bool) → text_left is_first [] ≡ []
 text_left-nil true = refl
 text_left-nil false = refl
+
+-- a dot and a decimal for each
+pub dotted_is : (arcs : List ℕ) → dotted arcs ≡ text_left false arcs
+dotted_is [] = refl
+dotted_is (arc ∷ arcs) =
+    flat_map-cons (λ n. 46 ∷ decimal n) arc arcs ∙ ap (λ l. (46 ∷ decimal arc) ++ l) (dotted_is arcs) ∙ sym (text_left-cons false arc arcs)
+
+arcs_text_is : (is_first : Bool) (arcs : List ℕ) → arcs_text is_first arcs ≡ text_left is_first arcs
+arcs_text_is true arcs = refl
+arcs_text_is false arcs = dotted_is arcs
+
+pub length-arcs_text : (is_first : Bool) (arc : ℕ) (arcs : List ℕ)
+    → length (arcs_text is_first (arc ∷ arcs)) ≡ length (arc_text is_first arc) + length (arcs_text false arcs)
+length-arcs_text is_first arc arcs = rw (arcs_text_is is_first (arc ∷ arcs), dotted_is arcs) (length-text_left is_first arc arcs)
+
+pub arcs_text-nil : (is_first : Bool) → arcs_text is_first [] ≡ []
+arcs_text-nil true = refl
+arcs_text-nil false = refl
+
+pub dotted-cons : (arc : ℕ) (arcs : List ℕ) → dotted (arc ∷ arcs) ≡ arc_text false arc ++ dotted arcs
+dotted-cons arc arcs = flat_map-cons (λ n. 46 ∷ decimal n) arc arcs
 
 texts_ascii : (is_first : Bool) (arcs : List ℕ) → AreArcs arcs → IsAscii (text_left is_first arcs)
 texts_ascii is_first [] h = rw (text_left-nil is_first) (λ i. omega arith)

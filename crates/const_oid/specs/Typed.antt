@@ -1,5 +1,5 @@
 -- What people type and read: blanks, a prefix, and names before arcs.
-use Rattle.std.specs.Prelude.{◌≡◌, ℕ, zero, suc, ◌+◌, ◌-◌, ◌<◌, ◌==◌, ◌&&◌, ◌||◌, Bool, false, List, ◌∷◌, ◌++◌, length, take, drop, get_or, take_while, flat_map, decimal, nat_lt, nat_eq, if◌then◌else◌, Option, Some, None, option_map, unwrap_or, codes, Result}
+use Rattle.std.specs.Prelude.{◌≡◌, ℕ, zero, suc, ◌+◌, ◌-◌, ◌<◌, ◌==◌, ◌&&◌, ◌||◌, Bool, false, List, ◌∷◌, ◌++◌, length, map, take, drop, get_or, take_while, flat_map, decimal, nat_lt, nat_eq, if◌then◌else◌, Option, Some, None, option_map, unwrap_or, codes, Result}
 use Rattle.std.specs.Borrow.{Bor}
 use Rattle.std.specs.Char.{is_ascii_alphabetic, is_ascii_alphanumeric, is_ascii_digit, is_ascii_whitespace}
 use Rattle.std.specs.Cmp.Lexicographic.{pointwise}
@@ -8,9 +8,13 @@ use Rattle.std.specs.Option.{option_and_then, option_map_or, option_or}
 use Rattle.std.specs.Str.{str_eq_ignore_ascii_case}
 use Rattle.const_oid.specs.declared.error.Error.{Error}
 use Rattle.const_oid.specs.declared.oid.ObjectIdentifier.{ObjectIdentifier}
+use Rattle.const_oid.specs.declared.tables.Display.{Display}
 use Rattle.const_oid.specs.declared.tables.Tables.{Tables}
+use Rattle.const_oid.specs.Base128.{value_of}
+use Rattle.const_oid.specs.Contents.{cut}
 use Rattle.const_oid.specs.Identifier.{root_rule}
 use Rattle.const_oid.specs.Names.{Entry, entries_of, first_name, first_oid, lent_arcs}
+use Rattle.const_oid.specs.OidRef.{ref_arcs}
 use Rattle.const_oid.specs.Text.{dot, is_empty, text_answer, text_of}
 
 -- entries of identifiers of the default capacity, as a table has
@@ -99,6 +103,10 @@ displayed_up_to entries arcs (suc n) = option_map_or (λ name. name ++ dotted (d
 -- what is displayed of arcs
 abbrev pub displayed : Entries → List ℕ → List ℕ
 displayed entries arcs = displayed_up_to entries arcs (length arcs)
+
+-- the text of what is displayed: a name, and a dot and the decimal of each arc after it, or else the dotted text
+abbrev pub displayed_by : Display → List ℕ
+displayed_by display = option_map_or (λ name. name.now ++ dotted (map value_of (cut display.below.now))) display.name (text_of (ref_arcs display.oid))
 
 -- a name is read as itself, alone and before arcs
 pub record IsReadable (name : List ℕ) : Type 0 where

@@ -211,7 +211,7 @@ impl<'a> ObjectIdentifierRef<'a> {
     pub fn text_len(&self) -> usize
         ensures { result ≡ min (length (text_of (ref_arcs self.now))) usize.MAX }
     {
-        text_len(self.arcs(), usize::MAX).unwrap_or(usize::MAX)
+        text_len(self.arcs(), true, usize::MAX).unwrap_or(usize::MAX)
     }
 
     /// Writes the text that `{}` writes to the start of `out`, and returns its length in bytes. Returns `None` if it is
@@ -235,7 +235,7 @@ impl<'a> ObjectIdentifierRef<'a> {
     {
         // An octet takes four bytes of text at most.
         if self.ber.len() > out.len() / 4 {
-            text_len(self.arcs(), out.len())?;
+            text_len(self.arcs(), true, out.len())?;
         }
         Some(write_text(self.ber, out))
     }

@@ -1,15 +1,17 @@
 //! Octets and identifiers in outputs of the caller.
 
-ghost use Rattle.std.specs.Prelude.{◌≡◌, ◌≢◌, ◌*◌, ◌<◌, ◌≤◌, ℕ, List, length, Err, IfErr, IfOk, IfSome, MatchOption, MatchResult, None, Ok};
+ghost use Rattle.std.specs.Prelude.{◌≡◌, ◌≢◌, ◌*◌, ◌<◌, ◌≤◌, ℕ, List, drop, length, min, Err, IfErr, IfOk, IfSome, MatchOption, MatchResult, None, Ok};
 ghost use Rattle.std.specs.Result.{result_err};
 ghost use Rattle.const_oid.specs.Contents.{arcs_of_octets, borrowed_capacity, octet_fault, size_answer};
 ghost use Rattle.const_oid.specs.Identifier.{root_rule, default_capacity};
 ghost use Rattle.const_oid.specs.Items.{item_answer};
 ghost use Rattle.const_oid.specs.OidRef.{ref_arcs, ref_slice};
-ghost use Rattle.const_oid.specs.Output.{IsEncodedIn, WritesAll, WritesEncoding};
+ghost use Rattle.const_oid.specs.Output.{IsEncodedIn, Writes, WritesAll, WritesEncoding};
 ghost use Rattle.const_oid.specs.Private.Parser.{error_of, place_of, NeedsNoStart};
 ghost use Rattle.const_oid.specs.Stop.{component_at, error_at, IsWrongAt};
 ghost use Rattle.const_oid.specs.Text.{text_answer};
+ghost use Rattle.const_oid.specs.Tree.{BeginsWith};
+ghost use Rattle.const_oid.specs.Typed.{dotted};
 
 use crate::Arc;
 use crate::base128::{checked_group, group_fault};
@@ -21,6 +23,7 @@ use crate::parser::{
     ONE_PASS_BYTES, Wrong, component_at, fault_of, parse, parse_in_one_pass, parse_inlined,
 };
 use crate::root::{MAX_FIRST, split_root};
+use crate::text::{text_len, write_dotted};
 use std::result;
 
 /// Parses dotted text in ASCII, of any length, and writes its contents octets to the start of `out`. Returns how many
@@ -75,6 +78,36 @@ pub fn bytes_from_arcs(arcs: &[Arc], out: &mut [u8]) -> Result<usize>
     let capacity = out.len();
     encode(arcs, &mut [], capacity)?;
     encode(arcs, out, capacity)
+}
+
+/// The length in bytes of the text that [`text_below`] writes, or `usize::MAX` if it is greater than that. 0 if the arcs do
+/// not begin with the prefix.
+pub fn text_below_len(oid: &ObjectIdentifierRef<'_>, prefix: &ObjectIdentifierRef<'_>) -> usize
+    ensures other { (BeginsWith (ref_arcs oid.now) (ref_arcs prefix.now) → ⊥) → result ≡ 0 }
+    ensures len { BeginsWith (ref_arcs oid.now) (ref_arcs prefix.now)
+        → result ≡ min (length (dotted (drop (length (ref_arcs prefix.now)) (ref_arcs oid.now)))) usize.MAX }
+{
+    match oid.strip_prefix(prefix) {
+        Some(arcs) => text_len(arcs, false, usize::MAX).unwrap_or(usize::MAX),
+        None => 0,
+    }
+}
+
+/// Writes a dot and the decimal of each arc after those of a prefix to the start of `out`, and returns the length of this
+/// text in bytes. Returns `None` if it is longer than `out`, or if the arcs do not begin with the prefix; `out` is then
+/// unchanged.
+pub fn text_below(
+    oid: &ObjectIdentifierRef<'_>,
+    prefix: &ObjectIdentifierRef<'_>,
+    out: &mut [u8],
+) -> Option<usize>
+    ensures written { BeginsWith (ref_arcs oid.now) (ref_arcs prefix.now)
+        → Writes (dotted (drop (length (ref_arcs prefix.now)) (ref_arcs oid.now))) out.old out.new result }
+    ensures other { (BeginsWith (ref_arcs oid.now) (ref_arcs prefix.now) → ⊥) → result ≡ None }
+    ensures kept { result ≡ None → out.new ≡ out.old }
+{
+    text_len(oid.strip_prefix(prefix)?, false, out.len())?;
+    Some(write_dotted(oid.strip_prefix(prefix)?, out, 0))
 }
 
 /// Where the reading of a wrong text stops: at the end of a component whose arc has a fault, or, without one, within a

@@ -1,13 +1,24 @@
 //! Identifiers as people type and read them, by tables of names.
 
-ghost use Rattle.std.specs.Prelude.{◌≡◌};
+ghost use Rattle.std.specs.Prelude.{◌≡◌, ◌++◌, drop, length, map, min, None, MatchOption, Some};
+ghost use Rattle.std.specs.Fmt.{WritesStyledOnOk};
 ghost use Rattle.std.specs.Option.{option_map};
+ghost use Rattle.const_oid.specs.Base128.{value_of};
+ghost use Rattle.const_oid.specs.Contents.{cut, later_fault};
 ghost use Rattle.const_oid.specs.Oid.{oid_arcs};
-ghost use Rattle.const_oid.specs.OidRef.{ref_arcs};
+ghost use Rattle.const_oid.specs.OidRef.{ref_arcs, ref_octets};
+ghost use Rattle.const_oid.specs.Output.{Writes};
+ghost use Rattle.const_oid.specs.Text.{text_of};
+ghost use Rattle.const_oid.specs.Tree.{BeginsWith};
 
+use crate::arcs::Arcs;
 use crate::db::Database;
+use crate::digits::{MAX_ARC_LEN, utf8, write_arc, write_bytes};
 use crate::oid::Oid;
 use crate::oid_ref::ObjectIdentifierRef;
+use crate::parts::octets_from;
+use crate::text::{text_len, write_dotted};
+use std::fmt;
 
 /// Tables of names, which are asked in their order.
 #[derive(Copy, Clone)]
@@ -15,7 +26,7 @@ pub struct Tables<'a>(pub &'a [Database<'a>]);
 
 impl<'a> Tables<'a> {
     ghost use Rattle.const_oid.specs.Names.{first_name, first_oid, lent_arcs};
-    ghost use Rattle.const_oid.specs.Typed.{entries_in, shown};
+    ghost use Rattle.const_oid.specs.Typed.{displayed, displayed_by, dotted, entries_in, shown};
 
     /// The identifier that a name has in the first table that has it, ignoring ASCII case, or `None`.
     // erase: const
@@ -68,5 +79,120 @@ impl<'a> Tables<'a> {
         } else {
             None
         }
+    }
+    /// The text of an identifier: the name that is shown for its longest prefix with one, and a dot and a decimal for
+    /// each arc after it, or else dotted text. [`Tables`] has an example.
+    pub fn display(&self, oid: ObjectIdentifierRef<'a>) -> Display<'a>
+        ensures { displayed_by result ≡ displayed (entries_in self.now) (ref_arcs oid.entry) }
+    {
+        match self.shown_above(oid) {
+            Some((name, prefix)) => Display {
+                oid,
+                name: Some(name),
+                below: octets_after(oid, prefix),
+            },
+            None => Display {
+                oid,
+                name: None,
+                below: &[],
+            },
+        }
+    }
+
+    /// The name that is shown for the longest prefix of an identifier that has one, and this prefix, or `None`.
+    fn shown_above(
+        &self,
+        oid: ObjectIdentifierRef<'a>,
+    ) -> Option<(&'a str, ObjectIdentifierRef<'a>)>
+        ensures { MatchOption result
+            (displayed (entries_in self.now) (ref_arcs oid.entry) ≡ text_of (ref_arcs oid.entry))
+            (λ found. BeginsWith (ref_octets oid.entry) (ref_octets found.1)
+            × (displayed (entries_in self.now) (ref_arcs oid.entry) ≡ found.0.now ++ dotted (drop (length (ref_arcs found.1)) (ref_arcs oid.entry)))) }
+    {
+        let mut prefix = oid;
+        loop {
+            if let Some(name) = self.shown(prefix) {
+                return Some((name, prefix));
+            }
+            prefix = prefix.parent()?;
+        }
+    }
+}
+
+/// The octets of an identifier after those of a prefix.
+fn octets_after<'a>(oid: ObjectIdentifierRef<'a>, prefix: ObjectIdentifierRef<'_>) -> &'a [u8]
+    requires { BeginsWith (ref_octets oid) (ref_octets prefix) }
+    ensures valid { later_fault (cut result.now) ≡ None }
+    ensures arcs { map value_of (cut result.now) ≡ drop (length (ref_arcs prefix.entry)) (ref_arcs oid.entry) }
+{
+    octets_from(oid.as_bytes(), prefix.as_bytes().len())
+}
+
+/// The text of an identifier by tables of names, as [`Tables::display`] returns it.
+#[derive(Copy, Clone)]
+pub struct Display<'a> {
+    oid: ObjectIdentifierRef<'a>,
+    // The name of a prefix, if it is shown, and the octets after those of the prefix.
+    name: Option<&'a str>,
+    below: &'a [u8],
+    ghost valid: { later_fault (cut below.now) ≡ None },
+}
+
+impl Display<'_> {
+    ghost use Rattle.const_oid.specs.Typed.{displayed_by, dotted};
+
+    /// The length in bytes of the text that `{}` writes, or `usize::MAX` if it is greater than that.
+    pub fn text_len(&self) -> usize
+        ensures { result ≡ min (length (displayed_by self.now)) usize.MAX }
+    {
+        let Some(name) = self.name else {
+            return self.oid.text_len();
+        };
+        let below = text_len(Arcs::later(self.below), false, usize::MAX);
+        name.len().saturating_add(below.unwrap_or(usize::MAX))
+    }
+
+    /// Writes the text that `{}` writes to the start of `out`, and returns its length in bytes. Returns `None` if it is
+    /// longer than `out`, which is then unchanged.
+    pub fn encode_text(&self, out: &mut [u8]) -> Option<usize>
+        ensures written { Writes (displayed_by self.now) out.old out.new result }
+        ensures kept { result ≡ None → out.new ≡ out.old }
+    {
+        let Some(name) = self.name else {
+            return self.oid.encode_text(out);
+        };
+        let room = out.len().checked_sub(name.len())?;
+        text_len(Arcs::later(self.below), false, room)?;
+        let at = write_bytes(name.as_bytes(), out, 0);
+        Some(write_dotted(Arcs::later(self.below), out, at))
+    }
+
+    /// Writes a dot and the decimal of each arc after the name.
+    fn write_below<W: fmt::Write>(&self, f: &mut fmt::Formatter<W>) -> fmt::Result
+        ensures { WritesStyledOnOk W.write_str_gives f.old result (dotted (map value_of (cut self.now.below.now))) f.new }
+    {
+        for arc in Arcs::later(self.below) {
+            let mut text = [0; MAX_ARC_LEN];
+            let end = write_arc(arc, &mut text, 0);
+            f.write_str(utf8(&text, end))?;
+        }
+        Ok(())
+    }
+}
+
+/// Width, fill, sign and precision are ignored, as by that of the identifier.
+impl fmt::Display for Display<'_> {
+    ghost use Rattle.const_oid.specs.Typed.{displayed_by};
+
+    ghost output = { λ display. Some (displayed_by display) };
+
+    ghost styled_output = { λ display _. Some (displayed_by display) };
+
+    fn fmt<W: fmt::Write>(&self, f: &mut fmt::Formatter<W>) -> fmt::Result {
+        let Some(name) = self.name else {
+            return fmt::Display::fmt(&self.oid, f);
+        };
+        f.write_str(name)?;
+        self.write_below(f)
     }
 }

@@ -5,7 +5,8 @@ ghost use Rattle.const_oid.specs.Contents.{cut, parts_fault, arcs_of_octets};
 ghost use Rattle.const_oid.specs.Identifier.{root_rule};
 ghost use Rattle.const_oid.specs.Output.{WritesAll};
 ghost use Rattle.const_oid.specs.Text.{text_of};
-ghost use Rattle.const_oid.specs.Private.Text.{arc_text};
+ghost use Rattle.const_oid.specs.Private.Text.{arc_text, arcs_text};
+ghost use Rattle.const_oid.specs.Typed.{dotted};
 
 use crate::Arc;
 use crate::arcs::Arcs;
@@ -14,15 +15,16 @@ use crate::digits::{MAX_ARC_LEN, arc_len, write_arc};
 use crate::error::{Error, Result};
 use crate::root::{MAX_FIRST, split_root};
 
-/// The length of the arcs' text in bytes, or `None` if it is over a limit.
+/// The length in bytes of the arcs' text, with a dot before them unless they are the first, or `None` if it is over a
+/// limit.
 #[tactic(auto, using(crate::proofs::Sets::texts_left))]
 #[inline]
-pub(crate) fn text_len(arcs: Arcs<'_>, limit: usize) -> Option<usize>
-    ensures { MatchOption result (limit < length (text_of arcs.entry))
-        (λ len. (len ≡ length (text_of arcs.entry)) × (len ≤ limit)) }
+pub(crate) fn text_len(arcs: Arcs<'_>, are_first: bool, limit: usize) -> Option<usize>
+    ensures { MatchOption result (limit < length (arcs_text are_first arcs.entry))
+        (λ len. (len ≡ length (arcs_text are_first arcs.entry)) × (len ≤ limit)) }
 {
     let mut left = limit;
-    let mut is_first = true;
+    let mut is_first = are_first;
     for arc in arcs {
         let len = arc_len(arc, is_first);
         if left < len {
@@ -32,6 +34,21 @@ pub(crate) fn text_len(arcs: Arcs<'_>, limit: usize) -> Option<usize>
         is_first = false;
     }
     Some(limit - left)
+}
+
+/// Writes a dot and the decimal of each arc at an index, and returns the index after them.
+#[inline]
+pub(crate) fn write_dotted(arcs: Arcs<'_>, out: &mut [u8], at: usize) -> usize
+    requires { at + length (dotted arcs) ≤ length out.old }
+    ensures end { result ≡ at + length (dotted arcs.entry) }
+    ensures prefix { take result out.new ≡ take at out.old ++ dotted arcs.entry }
+    ensures after { drop result out.new ≡ drop result out.old }
+{
+    let mut end = at;
+    for arc in arcs {
+        end = write_arc(arc, out, end);
+    }
+    end
 }
 
 /// Writes the text of the arcs of valid octets at the start, and returns its length.

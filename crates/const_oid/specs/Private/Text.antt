@@ -2,12 +2,18 @@
 use Rattle.std.specs.Prelude.{ℕ, ◌+◌, ◌/◌, ◌%◌, Bool, true, false, List, [], ◌∷◌, ◌++◌, decimal, encode_utf8}
 use Rattle.const_oid.specs.declared.error.Error.{Error}
 use Rattle.const_oid.specs.declared.error.Error.TheVariants.{ArcInvalid, DigitExpected}
-use Rattle.const_oid.specs.Text.{dot}
+use Rattle.const_oid.specs.Text.{dot, text_of}
+use Rattle.const_oid.specs.Typed.{dotted}
 
 -- what an arc adds to the text, by whether it is the first
 abbrev pub arc_text : Bool → ℕ → List ℕ
 arc_text true arc = decimal arc
 arc_text false arc = dot ∷ decimal arc
+
+-- what arcs add to the text, by whether they are the first
+abbrev pub arcs_text : Bool → List ℕ → List ℕ
+arcs_text true arcs = text_of arcs
+arcs_text false arcs = dotted arcs
 
 -- two digits
 abbrev pub pair_text : ℕ → List ℕ

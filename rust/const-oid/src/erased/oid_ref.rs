@@ -172,7 +172,7 @@ impl ObjectIdentifierRef {
     #[inline]
     #[must_use]
     pub fn text_len(&self) -> usize {
-        text_len(self.arcs(), usize::MAX).unwrap_or(usize::MAX)
+        text_len(self.arcs(), true, usize::MAX).unwrap_or(usize::MAX)
     }
 
     /// Writes the text that `{}` writes to the start of `out`, and returns its length in bytes. Returns `None` if it is
@@ -193,7 +193,7 @@ impl ObjectIdentifierRef {
     pub fn encode_text(&self, out: &mut [u8]) -> Option<usize> {
         // An octet takes four bytes of text at most.
         if self.as_bytes().len() > out.len() / 4 {
-            text_len(self.arcs(), out.len())?;
+            text_len(self.arcs(), true, out.len())?;
         }
         Some(write_text(self.as_bytes(), out))
     }

@@ -10,6 +10,7 @@ use crate::erased::error::{Error, Result};
 use crate::erased::oid_ref::ObjectIdentifierRef;
 use crate::erased::parser::{ONE_PASS_BYTES, Wrong, component_at, fault_of, parse, parse_in_one_pass, parse_inlined};
 use crate::erased::root::{MAX_FIRST, split_root};
+use crate::erased::text::{text_len, write_dotted};
 use core::result;
 
 /// Parses dotted text in ASCII, of any length, and writes its contents octets to the start of `out`. Returns how many
@@ -53,6 +54,25 @@ pub fn bytes_from_arcs(arcs: &[Arc], out: &mut [u8]) -> Result<usize> {
     let capacity = out.len();
     encode(arcs, &mut [], capacity)?;
     encode(arcs, out, capacity)
+}
+
+/// The length in bytes of the text that [`text_below`] writes, or `usize::MAX` if it is greater than that. 0 if the arcs do
+/// not begin with the prefix.
+#[must_use]
+pub fn text_below_len(oid: &ObjectIdentifierRef, prefix: &ObjectIdentifierRef) -> usize {
+    match oid.strip_prefix(prefix) {
+        Some(arcs) => text_len(arcs, false, usize::MAX).unwrap_or(usize::MAX),
+        None => 0,
+    }
+}
+
+/// Writes a dot and the decimal of each arc after those of a prefix to the start of `out`, and returns the length of this
+/// text in bytes. Returns `None` if it is longer than `out`, or if the arcs do not begin with the prefix; `out` is then
+/// unchanged.
+#[must_use]
+pub fn text_below(oid: &ObjectIdentifierRef, prefix: &ObjectIdentifierRef, out: &mut [u8]) -> Option<usize> {
+    text_len(oid.strip_prefix(prefix)?, false, out.len())?;
+    Some(write_dotted(oid.strip_prefix(prefix)?, out, 0))
 }
 
 /// Where the reading of a wrong text stops: at the end of a component whose arc has a fault, or, without one, within a

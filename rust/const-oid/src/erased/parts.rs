@@ -50,6 +50,12 @@ pub(crate) fn first_octets(octets: &[u8], len: usize) -> &[u8] {
     octets.get(..len).unwrap_or(&[])
 }
 
+/// The octets from an index on.
+#[inline(always)]
+pub(crate) fn octets_from(octets: &[u8], start: usize) -> &[u8] {
+    octets.get(start..).unwrap_or(&[])
+}
+
 /// Copies octets to the start of `out`, as `fast::copies::copy_to` does. The cargo crate alone calls it, for less code.
 #[inline(always)]
 pub(crate) const fn copy_by_octet(octets: &[u8], out: &mut [u8]) {

@@ -2,9 +2,14 @@
 
 //! Identifiers as people type and read them, by tables of names.
 
+use crate::erased::arcs::Arcs;
 use crate::erased::db::Database;
+use crate::erased::digits::{MAX_ARC_LEN, utf8, write_arc, write_bytes};
 use crate::erased::oid::Oid;
 use crate::erased::oid_ref::ObjectIdentifierRef;
+use crate::erased::parts::octets_from;
+use crate::erased::text::{text_len, write_dotted};
+use core::fmt;
 
 /// Tables of names, which are asked in their order.
 #[derive(Copy, Clone)]
@@ -49,5 +54,85 @@ impl<'a> Tables<'a> {
         let name = self.by_oid(&oid)?;
         let other = self.by_name(name)?;
         if other.eq_last_first(&oid) { Some(name) } else { None }
+    }
+    /// The text of an identifier: the name that is shown for its longest prefix with one, and a dot and a decimal for
+    /// each arc after it, or else dotted text. [`Tables`] has an example.
+    #[must_use]
+    pub fn display(&self, oid: &'a ObjectIdentifierRef) -> Display<'a> {
+        match self.shown_above(oid) {
+            Some((name, prefix)) => Display { oid, name: Some(name), below: octets_after(oid, prefix) },
+            None => Display { oid, name: None, below: &[] },
+        }
+    }
+
+    /// The name that is shown for the longest prefix of an identifier that has one, and this prefix, or `None`.
+    fn shown_above(&self, oid: &'a ObjectIdentifierRef) -> Option<(&'a str, &'a ObjectIdentifierRef)> {
+        let mut prefix = oid;
+        loop {
+            if let Some(name) = self.shown(prefix) {
+                return Some((name, prefix));
+            }
+            prefix = prefix.parent()?;
+        }
+    }
+}
+
+/// The octets of an identifier after those of a prefix.
+fn octets_after<'a>(oid: &'a ObjectIdentifierRef, prefix: &ObjectIdentifierRef) -> &'a [u8] {
+    octets_from(oid.as_bytes(), prefix.as_bytes().len())
+}
+
+/// The text of an identifier by tables of names, as [`Tables::display`] returns it.
+#[derive(Copy, Clone)]
+pub struct Display<'a> {
+    oid: &'a ObjectIdentifierRef,
+    // The name of a prefix, if it is shown, and the octets after those of the prefix.
+    name: Option<&'a str>,
+    below: &'a [u8],
+}
+
+impl Display<'_> {
+    /// The length in bytes of the text that `{}` writes, or `usize::MAX` if it is greater than that.
+    #[must_use]
+    pub fn text_len(&self) -> usize {
+        let Some(name) = self.name else {
+            return self.oid.text_len();
+        };
+        let below = text_len(Arcs::later(self.below), false, usize::MAX);
+        name.len().saturating_add(below.unwrap_or(usize::MAX))
+    }
+
+    /// Writes the text that `{}` writes to the start of `out`, and returns its length in bytes. Returns `None` if it is
+    /// longer than `out`, which is then unchanged.
+    #[must_use]
+    pub fn encode_text(&self, out: &mut [u8]) -> Option<usize> {
+        let Some(name) = self.name else {
+            return self.oid.encode_text(out);
+        };
+        let room = out.len().checked_sub(name.len())?;
+        text_len(Arcs::later(self.below), false, room)?;
+        let at = write_bytes(name.as_bytes(), out, 0);
+        Some(write_dotted(Arcs::later(self.below), out, at))
+    }
+
+    /// Writes a dot and the decimal of each arc after the name.
+    fn write_below(&self, f: &mut fmt::Formatter<'_>) -> fmt::Result {
+        for arc in Arcs::later(self.below) {
+            let mut text = [0; MAX_ARC_LEN];
+            let end = write_arc(arc, &mut text, 0);
+            f.write_str(utf8(&text, end))?;
+        }
+        Ok(())
+    }
+}
+
+/// Width, fill, sign and precision are ignored, as by that of the identifier.
+impl fmt::Display for Display<'_> {
+    fn fmt(&self, f: &mut fmt::Formatter<'_>) -> fmt::Result {
+        let Some(name) = self.name else {
+            return fmt::Display::fmt(&self.oid, f);
+        };
+        f.write_str(name)?;
+        self.write_below(f)
     }
 }

@@ -9,11 +9,12 @@ use crate::erased::digits::{MAX_ARC_LEN, arc_len, write_arc};
 use crate::erased::error::{Error, Result};
 use crate::erased::root::{MAX_FIRST, split_root};
 
-/// The length of the arcs' text in bytes, or `None` if it is over a limit.
+/// The length in bytes of the arcs' text, with a dot before them unless they are the first, or `None` if it is over a
+/// limit.
 #[inline]
-pub(crate) fn text_len(arcs: Arcs<'_>, limit: usize) -> Option<usize> {
+pub(crate) fn text_len(arcs: Arcs<'_>, are_first: bool, limit: usize) -> Option<usize> {
     let mut left = limit;
-    let mut is_first = true;
+    let mut is_first = are_first;
     for arc in arcs {
         let len = arc_len(arc, is_first);
         if left < len {
@@ -23,6 +24,16 @@ pub(crate) fn text_len(arcs: Arcs<'_>, limit: usize) -> Option<usize> {
         is_first = false;
     }
     Some(limit - left)
+}
+
+/// Writes a dot and the decimal of each arc at an index, and returns the index after them.
+#[inline]
+pub(crate) fn write_dotted(arcs: Arcs<'_>, out: &mut [u8], at: usize) -> usize {
+    let mut end = at;
+    for arc in arcs {
+        end = write_arc(arc, out, end);
+    }
+    end
 }
 
 /// Writes the text of the arcs of valid octets at the start, and returns its length.

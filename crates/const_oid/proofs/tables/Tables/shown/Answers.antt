@@ -1,6 +1,5 @@
 use Rattle.std.proofs.Common.{◌≡◌, ◌<◌, ap, arith, length, ◌∙◌, sym}
 use Rattle.std.proofs.lemmas.Grind.{common_steps}
-use Rattle.std.specs.Option.{option_map}
 use Rattle.const_oid.specs.{Names.{first_name, lent_arcs}, Oid.oid_arcs, OidRef.{ref_arcs, ref_octets}, Typed.entries_in}
 use Rattle.const_oid.proofs.Encodings.{ref_encoding, same_octets}
 use Rattle.const_oid.proofs.Shown.{shown_name, shown_none, unnamed}
