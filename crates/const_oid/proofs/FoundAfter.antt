@@ -2,7 +2,7 @@
 use Rattle.std.proofs.Common.{◌≡◌, ℕ, ◌+◌, ◌-◌, ◌*◌, ◌<◌, ◌≤◌, false, true, List, [], ◌∷◌, ◌++◌, length, take, decimal, refl, ap, sym, ◌∙◌, arith}
 use Rattle.std.proofs.Common.{lt-ltb, le-ltb, nat_lt, if◌then◌else◌, Err, append-nil, append_assoc, length-append, subst, ⊎_elim}
 use Rattle.std.specs.List.{AllZip, concat}
-use Rattle.std.proofs.lemmas.{Bool.cases_lt, Bool.Decides.nat_tests, Slice.Zip.AllZip-long}
+use Rattle.std.proofs.lemmas.{Bool.cases_lt, Bool.Decides.nat_tests, List.length-take-le, Slice.Zip.AllZip-long}
 use Rattle.const_oid.specs.declared.error.Error.{Error}
 use Rattle.const_oid.specs.declared.error.Error.TheVariants.{ArcInvalid, Length}
 use Rattle.const_oid.specs.{Base128.{IsGroup}, Contents.{arcs_of_octets, cut}, Error.fault_if, Items.arc_fault}
@@ -14,9 +14,9 @@ use Rattle.const_oid.proofs.{Cutting.concat-cut, Encodings.cut_encoding, Parents
 use Rattle.const_oid.proofs.{Lists.{all_at, append-cons}, Numbers.{decimal_is, number_of-decimal}}
 use Rattle.const_oid.proofs.{Texts.{arcs_small, text_left, text_left-cons}, WrongIndex.answer_from_found}
 
-left_dotted : (arcs rest : List ℕ) → FollowsArc rest → FollowsArc (text_left false arcs ++ rest)
-left_dotted [] rest dotted = dotted
-left_dotted (arc ∷ arcs) rest dotted = λ some. refl
+left_follows : (arcs rest : List ℕ) → FollowsArc rest → FollowsArc (text_left false arcs ++ rest)
+left_follows [] rest follows = follows
+left_follows (arc ∷ arcs) rest follows = λ some. refl
 
 -- ---- sizes
 
@@ -71,9 +71,9 @@ module _ (capacity : ℕ) where
   arc_read : (before : List ℕ) (arc : ℕ) (bytes : List ℕ) → arc ≤ max_arc → FollowsArc bytes
       → components_found capacity before (components_of (decimal arc ++ bytes))
       ≡ arc_found capacity before arc bytes (arc_fault root_rule capacity before arc)
-  arc_read before arc bytes small dotted =
+  arc_read before arc bytes small follows =
       let number = number_of-decimal arc small in
-      rw number at (number_read capacity before (decimal arc) bytes (decimal_is arc small) (rw number small) dotted _ refl)
+      rw number at (number_read capacity before (decimal arc) bytes (decimal_is arc small) (rw number small) follows _ refl)
 
   after_dot : (before digits bytes : List ℕ) → 0 < length digits
       → found_after capacity before (dot ∷ (digits ++ bytes)) ≡ components_found capacity before (components_of (digits ++ bytes))
@@ -83,7 +83,7 @@ module _ (capacity : ℕ) where
   next_read : (before : List ℕ) (arc : ℕ) (arcs later rest : List ℕ) → 0 < length before → IsIdentifier root_rule (before ++ arc ∷ later)
       → FollowsArc rest → found_after capacity before (text_left false (arc ∷ arcs) ++ rest)
       ≡ arc_found capacity before arc (text_left false arcs ++ rest) (fault_if (nat_lt capacity (size (before ++ arc ∷ []))) Length)
-  next_read before arc arcs later rest some identifier dotted =
+  next_read before arc arcs later rest some identifier follows =
       let small = all_at (λ n. n ≤ max_arc) before arc later (arcs_small root_rule (before ++ arc ∷ later) identifier) in
       let bytes = text_left false arcs ++ rest in
       let joined = append_assoc (dot ∷ decimal arc) (text_left false arcs) rest in
@@ -91,17 +91,17 @@ module _ (capacity : ℕ) where
       ap (λ l. found_after capacity before (l ++ rest)) (text_left-cons false arc arcs)
       ∙ ap (found_after capacity before) joined
       ∙ after_dot before (decimal arc) bytes is.0
-      ∙ arc_read before arc bytes small (left_dotted arcs rest dotted)
+      ∙ arc_read before arc bytes small (left_follows arcs rest follows)
       ∙ ap (arc_found capacity before arc bytes) (arc_length before arc later some identifier)
 
   first_read : (first : ℕ) (arcs rest : List ℕ) → first ≤ 2 → FollowsArc rest
       → text_found capacity (text_of (first ∷ arcs) ++ rest) ≡ found_after capacity (first ∷ []) (text_left false arcs ++ rest)
-  first_read first arcs rest low dotted =
+  first_read first arcs rest low follows =
       let bytes = text_left false arcs ++ rest in
       let joined = append_assoc (decimal first) (text_left false arcs) rest in
       ap (λ l. text_found capacity (l ++ rest)) (text_left-cons true first arcs)
       ∙ ap (text_found capacity) joined
-      ∙ arc_read [] first bytes (omega arith) (left_dotted arcs rest dotted)
+      ∙ arc_read [] first bytes (omega arith) (left_follows arcs rest follows)
       ∙ ap (arc_found capacity [] first bytes) (none_from_below 2 first (ArcInvalid first) low)
 
   -- ---- arcs that fit
@@ -109,14 +109,14 @@ module _ (capacity : ℕ) where
   arcs_read : (before arcs more rest : List ℕ) → 0 < length before → IsIdentifier root_rule (before ++ (arcs ++ more))
       → size (before ++ arcs) ≤ capacity → FollowsArc rest
       → found_after capacity before (text_left false arcs ++ rest) ≡ found_after capacity (before ++ arcs) rest
-  arcs_read before [] more rest some identifier fits dotted = rw (append-nil before) refl
-  arcs_read before (arc ∷ arcs) more rest some identifier fits dotted =
+  arcs_read before [] more rest some identifier fits follows = rw (append-nil before) refl
+  arcs_read before (arc ∷ arcs) more rest some identifier fits follows =
       let joined = append-cons before arc arcs in
       let less = size_to before arc arcs some in
       let none = none_from_below capacity (size (before ++ arc ∷ [])) Length (omega arith) in
       let later = arcs_read (before ++ arc ∷ []) arcs more rest (omega (arith, length-append before (arc ∷ [])))
-      (rw (append-cons before arc (arcs ++ more)) identifier) (rw joined fits) dotted in
-      next_read before arc arcs (arcs ++ more) rest some identifier dotted ∙ rw none (rw joined at later)
+      (rw (append-cons before arc (arcs ++ more)) identifier) (rw joined fits) follows in
+      next_read before arc arcs (arcs ++ more) rest some identifier follows ∙ rw none (rw joined at later)
 
   first_low : (first : ℕ) (arcs : List ℕ) → IsIdentifier root_rule (first ∷ arcs) → first ≤ 2
   first_low first [] identifier = absurd identifier
@@ -125,10 +125,10 @@ module _ (capacity : ℕ) where
   -- the arcs of an identifier, and what follows them
   pub text_read : (arcs rest : List ℕ) → IsIdentifier root_rule arcs → size arcs ≤ capacity → FollowsArc rest
       → text_found capacity (text_of arcs ++ rest) ≡ found_after capacity arcs rest
-  text_read [] rest identifier fits dotted = absurd identifier
-  text_read (first ∷ arcs) rest identifier fits dotted =
-      first_read first arcs rest (first_low first arcs identifier) dotted
-      ∙ arcs_read (first ∷ []) arcs [] rest (omega arith) (rw (append-nil arcs) identifier) fits dotted
+  text_read [] rest identifier fits follows = absurd identifier
+  text_read (first ∷ arcs) rest identifier fits follows =
+      first_read first arcs rest (first_low first arcs identifier) follows
+      ∙ arcs_read (first ∷ []) arcs [] rest (omega arith) (rw (append-nil arcs) identifier) fits follows
 
   -- their octets, at the start of an output
   pub octets_written : {octets : List ℕ} (rest old new : List ℕ) → IsEncoding root_rule (arcs_of_octets octets) octets
@@ -163,9 +163,9 @@ module _ (capacity : ℕ) where
   arcs_long : (before arcs more rest : List ℕ) → 0 < length before → IsIdentifier root_rule (before ++ (arcs ++ more))
       → size before ≤ capacity → capacity < size (before ++ arcs) → FollowsArc rest → 1 < length rest
       → (index : ℕ) × (found_after capacity before (text_left false arcs ++ rest) ≡ Err (Length, index))
-  arcs_long before [] more rest some identifier fits long dotted follows = absurd (omega (arith, rw append-nil at long))
-  arcs_long before (arc ∷ arcs) more rest some identifier fits long dotted follows =
-      let read = next_read before arc arcs (arcs ++ more) rest some identifier dotted in
+  arcs_long before [] more rest some identifier fits long follows more_bytes = absurd (omega (arith, rw append-nil at long))
+  arcs_long before (arc ∷ arcs) more rest some identifier fits long follows more_bytes =
+      let read = next_read before arc arcs (arcs ++ more) rest some identifier follows in
       let taken = size (before ++ arc ∷ []) in
       ⊎_elim
       (λ (less : capacity < taken).
@@ -174,7 +174,7 @@ module _ (capacity : ℕ) where
       (λ (room : taken ≤ capacity).
       let joined = append-cons before arc arcs in
       let (index, found) = arcs_long (before ++ arc ∷ []) arcs more rest (omega (arith, length-append before (arc ∷ [])))
-      (rw (append-cons before arc (arcs ++ more)) identifier) room (rw joined long) dotted follows in
+      (rw (append-cons before arc (arcs ++ more)) identifier) room (rw joined long) follows more_bytes in
       (index, read ∙ rw (none_from_below capacity taken Length room) found))
       (cases_lt capacity taken)
 
@@ -193,23 +193,23 @@ module _ (capacity : ℕ) where
       → capacity < size (first ∷ middle ++ last ∷ []) → FollowsArc rest
       → (index : ℕ) × (text_found capacity (text_of (first ∷ middle ++ last ∷ []) ++ rest)
       ≡ Err ((if nat_lt capacity (size (first ∷ middle)) then Length else or_trailing Length rest), index))
-  long_found first middle last rest identifier long dotted =
+  long_found first middle last rest identifier long follows =
       let parent = size (first ∷ middle) in
       let left = text_left false (last ∷ []) ++ rest in
-      let begun = first_read first (middle ++ last ∷ []) rest (first_low first (middle ++ last ∷ []) identifier) dotted
+      let begun = first_read first (middle ++ last ∷ []) rest (first_low first (middle ++ last ∷ []) identifier) follows
       ∙ ap (found_after capacity (first ∷ [])) (left_append middle last rest) in
-      let is_dotted = left_dotted (last ∷ []) rest dotted in
+      let left_is = left_follows (last ∷ []) rest follows in
       ⊎_elim
       (λ (less : capacity < parent).
       let is = decimal_is last (all_at (λ n. n ≤ max_arc) (first ∷ middle) last [] (arcs_small root_rule (first ∷ middle ++ last ∷ []) identifier)) in
       let some : 1 < length left = omega (arith, is.0, length-append (decimal last) rest) in
-      let (index, found) = arcs_long (first ∷ []) middle (last ∷ []) left (omega arith) identifier (omega arith) less is_dotted some in
+      let (index, found) = arcs_long (first ∷ []) middle (last ∷ []) left (omega arith) identifier (omega arith) less left_is some in
       (index, begun ∙ found ∙ rw (lt-ltb capacity parent less) refl))
       (λ (room : parent ≤ capacity).
       let taken = size (first ∷ middle ++ last ∷ []) in
-      let last_read = next_read (first ∷ middle) last [] [] rest (omega arith) identifier dotted in (
+      let last_read = next_read (first ∷ middle) last [] [] rest (omega arith) identifier follows in (
         length (first ∷ middle),
-        begun ∙ arcs_read (first ∷ []) middle (last ∷ []) left (omega arith) identifier room is_dotted
+        begun ∙ arcs_read (first ∷ []) middle (last ∷ []) left (omega arith) identifier room left_is
             ∙ last_read ∙ rw (some_from_above capacity taken Length long, le-ltb capacity parent room) refl,
       ))
       (cases_lt capacity parent)
@@ -218,19 +218,26 @@ module _ (capacity : ℕ) where
       → IsEncoding root_rule (first ∷ middle ++ last ∷ []) octets → IsWithoutLast octets before → capacity < length octets → FollowsArc rest
       → text_answer root_rule (text_of (first ∷ middle ++ last ∷ []) ++ rest) capacity
       ≡ Err (if nat_lt capacity (length before) then Length else or_trailing Length rest)
-  long_split first middle last octets before rest encoding without long dotted =
+  long_split first middle last octets before rest encoding without long follows =
       let arcs = first ∷ middle ++ last ∷ [] in
-      let (index, found) = long_found first middle last rest encoding.identifier (omega (arith, length_is_size encoding)) dotted in
+      let (index, found) = long_found first middle last rest encoding.identifier (omega (arith, length_is_size encoding)) follows in
       rw (← size_before first middle last octets before encoding without) at (answer_from_found capacity (text_of arcs ++ rest) found)
 
-  -- the arcs of octets that do not fit, and what follows them
-  pub long_answer : (arcs octets before rest : List ℕ) → IsEncoding root_rule arcs octets → IsWithoutLast octets before
-      → capacity < length octets → FollowsArc rest → text_answer root_rule (text_of arcs ++ rest) capacity
-      ≡ Err (if nat_lt capacity (length before) then Length else or_trailing Length rest)
-  long_answer [] octets before rest encoding without long dotted = absurd encoding.identifier
-  long_answer (first ∷ []) octets before rest encoding without long dotted = absurd encoding.identifier
-  long_answer (first ∷ second ∷ later) octets before rest encoding without long dotted =
-      let (middle, last, joined) = but_last second later in
-      let fault = if nat_lt capacity (length before) then Length else or_trailing Length rest in
-      let Answers : List ℕ → Type 0 = λ l. IsEncoding root_rule (first ∷ l) octets → text_answer root_rule (text_of (first ∷ l) ++ rest) capacity ≡ Err fault in
-      subst Answers (sym joined) (λ is. long_split first middle last octets before rest is without long dotted) encoding
+  -- the arcs of octets that do not fit, and what follows them, by where the last part begins
+  pub long_answer : (octets rest : List ℕ) (start : ℕ) → let arcs = arcs_of_octets octets in IsEncoding root_rule arcs octets
+      → start ≤ length octets → IsWithoutLast octets (take start octets) → capacity < length octets → FollowsArc rest
+      → text_answer root_rule (text_of arcs ++ rest) capacity ≡ Err (if nat_lt capacity start then Length else or_trailing Length rest)
+  long_answer octets rest start encoding within without long follows =
+      rw (length-take-le start octets within) at (by_last (arcs_of_octets octets) encoding)
+    where
+      Answers : List ℕ → Type 0
+      Answers arcs = text_answer root_rule (text_of arcs ++ rest) capacity
+          ≡ Err (if nat_lt capacity (length (take start octets)) then Length else or_trailing Length rest)
+
+      by_last : (arcs : List ℕ) → IsEncoding root_rule arcs octets → Answers arcs
+      by_last [] is = absurd is.identifier
+      by_last (first ∷ []) is = absurd is.identifier
+      by_last (first ∷ second ∷ later) is =
+          let (middle, last, joined) = but_last second later in
+          let By : List ℕ → Type 0 = λ l. IsEncoding root_rule (first ∷ l) octets → Answers (first ∷ l) in
+          subst By (sym joined) (λ split. long_split first middle last octets (take start octets) rest split without long follows) is

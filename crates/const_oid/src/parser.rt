@@ -271,7 +271,8 @@ pub(crate) fn long_fault(octets: &[u8], text: &[u8], capacity: usize) -> Error
     requires follows { FollowsArc text.now }
     ensures { text_answer root_rule (text_of (arcs_of_octets octets.now) ++ text.now) capacity ≡ Err result }
 {
-    if capacity < last_part(octets) {
+    let parent = last_part(octets);
+    if capacity < parent {
         Error::Length
     } else {
         or_trailing_dot(Error::Length, text, 0)

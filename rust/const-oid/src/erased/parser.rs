@@ -202,5 +202,6 @@ const fn or_trailing_dot(fault: Error, text: &[u8], end: usize) -> Error {
 #[cold]
 #[inline(never)]
 pub(crate) const fn long_fault(octets: &[u8], text: &[u8], capacity: usize) -> Error {
-    if capacity < last_part(octets) { Error::Length } else { or_trailing_dot(Error::Length, text, 0) }
+    let parent = last_part(octets);
+    if capacity < parent { Error::Length } else { or_trailing_dot(Error::Length, text, 0) }
 }

@@ -56,5 +56,5 @@ returns-in-Err-clause-answer g c =
     let begun = begun c.args.text.now c.copied-buffer.result c.requires.valid c.requires.follows (omega arith) c.copied-buffer.ensures (omega arith) in
     let full : c.capacity-capacity.result ≡ min g.row.SIZE 255 = omega arith in
     let is = c.in-Err.ensures.answer _ _ _ begun in
-    let answer = answer_from_found c.capacity-capacity.result (text_of (arcs_of_octets c.args.above.now) ++ c.args.text.now) is.0.found in
+    let answer = answer_from_found c.capacity-capacity.result (text_of (arcs_of_octets c.args.above.now) ++ c.args.text.now) {index = is.0.index} is.0.found in
     rw c.fault_of.ensures.fault (sym (rw full at answer))
