@@ -6,3 +6,4 @@ pub mod Elements
 pub mod Rooms
 pub mod SkippedArcs
 pub mod SortedList
+pub mod TextBelow

@@ -1,5 +1,6 @@
 -- The results of functions: what a function writes, or its status.
-use Rattle.std.specs.Prelude.{◌≡◌, ℕ, List, [], ◌∷◌, codes, nat_lt, slice_index_or, if◌then◌else◌, Option, Some, None, Result, Ok, Err}
+use Rattle.std.specs.Prelude.{◌≡◌, ℕ, List, [], ◌∷◌, codes, drop, length, nat_eq, nat_lt, take, slice_index_or, if◌then◌else◌, Option, Some, None, Result, Ok, Err}
+use Rattle.std.specs.Cmp.Lexicographic.{pointwise}
 use Rattle.std.specs.Option.{option_map, option_map_or}
 use Rattle.std.specs.Result.{result_flatten, result_map_both}
 use Rattle.std.specs.Str.{is_utf8}
@@ -10,6 +11,7 @@ use Rattle.const_oid.specs.Error.{message_of}
 use Rattle.const_oid.specs.Identifier.{root_rule, encoding_of}
 use Rattle.const_oid.specs.Text.{components_of, text_answer, wrong_index}
 use Rattle.const_oid.specs.Tree.{child_of, parent_of}
+use Rattle.const_oid.specs.Typed.{dotted}
 use Rattle.const_oid_c.specs.declared.status.Status.{Status}
 use Rattle.const_oid_c.specs.Status.{error_status, fault_at, max_len, not_utf8_status, none_status, number_status}
 
@@ -95,3 +97,9 @@ code_texts detail =
 -- the text of a code and its detail, if there is one
 abbrev pub text_of_code : ℕ → ℕ → Result (List ℕ) Status
 text_of_code code detail = ok_or_none (slice_index_or (code_texts detail) code None)
+
+-- a dot and the decimal of each arc after those of a prefix, or the status of what is no identifier, or no prefix
+abbrev pub text_below : Result (List ℕ) Error → Result (List ℕ) Error → Result (List ℕ) Status
+text_below (Err fault) prefix = Err (error_status fault)
+text_below (Ok arcs) (Err fault) = Err (error_status fault)
+text_below (Ok arcs) (Ok prefix) = if pointwise nat_eq prefix (take (length prefix) arcs) then Ok (dotted (drop (length prefix) arcs)) else Err none_status

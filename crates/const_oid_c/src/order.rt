@@ -96,7 +96,7 @@ pub extern "C" fn const_oid_by_arcs(left: &Octets<'_>, right: &Octets<'_>) -> i3
 
 /// Reads two identifiers of any length. The error is that of the first one that is not valid.
 #[inline]
-fn read_both<'a>(
+pub(crate) fn read_both<'a>(
     left: &'a [u8],
     right: &'a [u8],
 ) -> Result<(ObjectIdentifierRef<'a>, ObjectIdentifierRef<'a>)>
