@@ -1,16 +1,16 @@
 -- Texts that have no blanks around them, and no prefix.
 use Rattle.std.proofs.Common.{◌≡◌, ℕ, ◌+◌, ◌-◌, ◌<◌, min, ◌==◌, ◌||◌, ◌&&◌, not, true, false, List, [], ◌∷◌, ◌++◌, length, take, drop, get_or}
-use Rattle.std.proofs.Common.{refl, sym, ap, ◌∙◌, arith, codes, decimal, one-add, length-append, length-take, length-drop}
-use Rattle.std.specs.Char.{is_ascii_digit, is_ascii_whitespace}
+use Rattle.std.proofs.Common.{refl, sym, ap, ◌∙◌, arith, codes, one-add, length-append, length-take, length-drop}
+use Rattle.std.specs.Char.{is_ascii_whitespace}
 use Rattle.std.specs.List.{list_all, prefix_len, suffix_len}
-use Rattle.std.specs.Str.{all_ascii_digits, str_eq_ignore_ascii_case}
+use Rattle.std.specs.Str.{str_eq_ignore_ascii_case}
 use Rattle.std.proofs.lemmas.Bool.{and_parts, Decides.nat_tests}
 use Rattle.std.proofs.lemmas.List.{append-nil, drop-append-le, get_or_append_left, get_or-append-add, length-take-le, take_all, take-append-drop, take-append-le}
 use Rattle.std.proofs.lemmas.List.Sums.{prefix_len_is, prefix_len-le-length, prefix_len_stops, suffix_len_is}
 use Rattle.const_oid.specs.Text.{is_empty, text_of}
 use Rattle.const_oid.specs.Typed.{bare, begins_with, begins_with_digit, dotted, is_in_word, prefix_of, without_blanks, IsReadable}
-use Rattle.const_oid.proofs.Dotted.{is_no_blank, no_blank_at, dotted_no_blank, text_of_dotted}
-use Rattle.const_oid.proofs.{Numbers.decimal_is, Texts.AreArcs}
+use Rattle.const_oid.proofs.Dotted.{digit_begins, is_no_blank, no_blank_at, dotted_no_blank, text_of_dotted}
+use Rattle.const_oid.proofs.{Texts.AreArcs}
 
 -- ---- blanks
 
@@ -120,17 +120,11 @@ bare_before_arcs name (arc ∷ later) readable small =
 
 -- ---- dotted text
 
-digits_begin : (digits more : List ℕ) → 0 < length digits → all_ascii_digits digits ≡ true → begins_with_digit (digits ++ more) ≡ true
-digits_begin [] more some are = absurd (omega arith)
-digits_begin (b ∷ digits) more some are = (and_parts (is_ascii_digit b) (all_ascii_digits digits) are).0
-
-pub text_begins_with_digit : (arc : ℕ) (later : List ℕ) → AreArcs (arc ∷ later) → begins_with_digit (text_of (arc ∷ later)) ≡ true
-text_begins_with_digit arc later small =
-    let is = decimal_is arc small.0 in
-    rw (text_of_dotted arc later) (digits_begin (decimal arc) (dotted later) is.0 is.1)
+pub text_begins_with_digit : (arc : ℕ) (later : List ℕ) → begins_with_digit (text_of (arc ∷ later)) ≡ true
+text_begins_with_digit arc later = rw (text_of_dotted arc later) (digit_begins arc (dotted later))
 
 pub bare_text_of : (arc : ℕ) (later : List ℕ) → AreArcs (arc ∷ later) → bare (text_of (arc ∷ later)) ≡ text_of (arc ∷ later)
 bare_text_of arc later small =
     let text = text_of (arc ∷ later) in
     let none : list_all is_no_blank text ≡ true = rw (text_of_dotted arc later) (dotted_no_blank (arc ∷ later) small) in
-    bare_digits text (no_blanks text (no_blank_at text 0 none) (no_blank_at text (length text - 1) none)) (text_begins_with_digit arc later small)
+    bare_digits text (no_blanks text (no_blank_at text 0 none) (no_blank_at text (length text - 1) none)) (text_begins_with_digit arc later)

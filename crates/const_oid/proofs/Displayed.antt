@@ -27,14 +27,23 @@ leads_by : (arcs name shown : List ℕ) (led : Option (List ℕ)) → option_and
 leads_by arcs name shown None is = cc
 leads_by arcs name shown (Some other) is = let (same, leads) = leads_if arcs name shown other is in (same, ap Some leads)
 
-leads_of : (entries : Entries) (arcs name : List ℕ) (found : Option (Bor (List ℕ)))
-    → option_and_then (λ shown. option_and_then (shown_if arcs shown.now) (led entries shown.now)) found ≡ Some name → led entries name ≡ Some arcs
-leads_of entries arcs name None is = cc
-leads_of entries arcs name (Some shown) is = let (same, leads) = leads_by arcs name shown.now (led entries shown.now) is in rw same at leads
+-- it is that of an entry, and leads to its arcs
+pub record IsShown (entries : Entries) (arcs name : List ℕ) (found : Option (Bor (List ℕ))) : Type 0 where
+  pub lent : Bor (List ℕ)
+  pub first : found ≡ Some lent
+  pub same : lent.now ≡ name
+  pub leads : led entries name ≡ Some arcs
 
--- it leads to its arcs
-pub shown_leads : (entries : Entries) (arcs name : List ℕ) → shown entries arcs ≡ Some name → led entries name ≡ Some arcs
-shown_leads entries arcs name is = leads_of entries arcs name (first_name lent_arcs entries arcs) is
+shown_of : (entries : Entries) (arcs name : List ℕ) (found : Option (Bor (List ℕ)))
+    → option_and_then (λ shown. option_and_then (shown_if arcs shown.now) (led entries shown.now)) found ≡ Some name → IsShown entries arcs name found
+shown_of entries arcs name None is = cc
+shown_of entries arcs name (Some shown) is =
+    let (same, leads) = leads_by arcs name shown.now (led entries shown.now) is in
+    record { lent = shown; first = refl; same = same; leads = rw same at leads }
+
+pub is_shown : (entries : Entries) (arcs name : List ℕ) → shown entries arcs ≡ Some name
+    → IsShown entries arcs name (first_name lent_arcs entries arcs)
+is_shown entries arcs name is = shown_of entries arcs name (first_name lent_arcs entries arcs) is
 
 -- ---- what is displayed
 
@@ -53,7 +62,7 @@ dotted_answer : (entries : Entries) (arcs : List ℕ) (capacity : ℕ) → IsIde
 dotted_answer entries [] capacity identifier = absurd identifier
 dotted_answer entries (arc ∷ later) capacity identifier =
     let small = arcs_small root_rule (arc ∷ later) identifier in
-    rw (bare_text_of arc later small, text_begins_with_digit arc later small) refl
+    rw (bare_text_of arc later small, text_begins_with_digit arc later) refl
 
 by_cases : (P : List ℕ → Type 0) (change : List ℕ → List ℕ) (found : Option (List ℕ)) (default : List ℕ)
     → ((name : List ℕ) → found ≡ Some name → P (change name)) → P default → P (option_map_or change found default)
@@ -70,7 +79,7 @@ module _ (entries : Entries) (arcs : List ℕ) (capacity : ℕ) (readable : AreR
   name_read : (name begun later : List ℕ) → begun ++ later ≡ arcs → shown entries begun ≡ Some name → IsRead (name ++ dotted later)
   name_read name begun later joined is =
       let small = small_parts begun later (rw joined (arcs_small root_rule arcs identifier)) in
-      name_answer entries name begun later (readable.names begun name is) (shown_leads entries begun name is) small
+      name_answer entries name begun later (readable.names begun name is) (is_shown entries begun name is).leads small
       (λ arc more _ other _. readable.below begun name more other arc is) capacity
       ∙ rw joined (text_answer-text_of arcs capacity identifier fits)
 

@@ -1,14 +1,15 @@
 -- Arcs after a name: a dot and the decimal of each.
-use Rattle.std.proofs.Common.{◌≡◌, ℕ, zero, suc, ◌+◌, ◌-◌, ◌<◌, ◌≤◌, Bool, not, true, false, List, [], ◌∷◌, ◌++◌, length, take, drop, get_or}
+use Rattle.std.proofs.Common.{◌≡◌, ℕ, zero, suc, ◌+◌, ◌-◌, ◌/◌, ◌%◌, ◌==◌, ◌<◌, ◌≤◌, Bool, not, true, false, List, [], ◌∷◌, ◌++◌, length, take, drop, get_or}
 use Rattle.std.proofs.Common.{refl, sym, ap, ◌∙◌, ⊎_elim, arith, append_assoc, append-nil, decimal, length-append}
 use Rattle.std.specs.Char.{is_ascii_digit, is_ascii_whitespace}
+use Rattle.std.specs.Fmt.{digit_glyph, digits, digits_onto}
 use Rattle.std.specs.List.{list_all}
 use Rattle.std.specs.Str.{all_ascii_digits}
-use Rattle.std.proofs.lemmas.{Bool.{and_parts, cases_lt, eqb-false, not-true, Decides.nat_tests}, Grind.{flat_map-append}, List.Folds.list_all-append}
+use Rattle.std.proofs.lemmas.{Bool.{and_parts, cases_lt, cond_both, eqb-false, not-true, Decides.nat_tests}, Grind.{flat_map-append}, List.Folds.list_all-append}
 use Rattle.std.proofs.lemmas.List.{get_or_append_left, get_or-append_right}
 use Rattle.std.proofs.Math.Seq.{take-append-add, drop-append-add}
 use Rattle.const_oid.specs.Text.{dot, text_of}
-use Rattle.const_oid.specs.Typed.{dotted}
+use Rattle.const_oid.specs.Typed.{begins_with_digit, dotted}
 use Rattle.const_oid.proofs.{Numbers.{decimal_is, undotted}, Texts.AreArcs}
 
 -- ---- dotted text
@@ -21,6 +22,26 @@ pub text_of-append : (arcs later : List ℕ) → 0 < length arcs → text_of arc
 text_of-append [] later some = absurd (omega arith)
 text_of-append (arc ∷ arcs) later some =
     rw (text_of_dotted arc arcs, text_of_dotted arc (arcs ++ later), append_assoc) (ap (λ l. decimal arc ++ l) (sym (flat_map-append (λ arc. dot ∷ decimal arc) arcs later)))
+
+-- a decimal begins with a digit
+glyph_digit : (n : ℕ) → is_ascii_digit (digit_glyph false (n % 10)) ≡ true
+glyph_digit n = grind (arith, nat_tests)
+
+digit_onto : (k n : ℕ) (digits : List ℕ) → begins_with_digit (digits_onto (suc k) 10 false n digits) ≡ true
+digit_onto zero n digits = cond_both (n / 10 == 0) _ _ (λ text. begins_with_digit text ≡ true) (λ _. glyph_digit n) (λ _. glyph_digit n)
+digit_onto (suc k) n digits =
+    cond_both (n / 10 == 0) _ _ (λ text. begins_with_digit text ≡ true) (λ _. glyph_digit n) (λ _. digit_onto k (n / 10) (digit_glyph false (n % 10) ∷ digits))
+
+decimal_begins : (n : ℕ) → begins_with_digit (decimal n) ≡ true
+unfolding digits
+decimal_begins n = digit_onto 63 n []
+
+digit_before : (text more : List ℕ) → begins_with_digit text ≡ true → begins_with_digit (text ++ more) ≡ true
+digit_before [] more digit = cc
+digit_before (b ∷ text) more digit = digit
+
+pub digit_begins : (arc : ℕ) (more : List ℕ) → begins_with_digit (decimal arc ++ more) ≡ true
+digit_begins arc more = digit_before (decimal arc) more (decimal_begins arc)
 
 -- ---- no blank is in it
 

@@ -55,3 +55,4 @@ pub mod Dotted
 pub mod SpeltOut
 pub mod Displayed
 pub mod Shown
+pub mod PlainNames

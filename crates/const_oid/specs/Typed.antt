@@ -1,5 +1,5 @@
 -- What people type and read: blanks, a prefix, and names before arcs.
-use Rattle.std.specs.Prelude.{◌≡◌, ℕ, zero, suc, ◌+◌, ◌-◌, ◌<◌, ◌==◌, ◌&&◌, ◌||◌, Bool, false, List, ◌∷◌, ◌++◌, length, map, take, drop, get_or, take_while, flat_map, decimal, nat_lt, nat_eq, if◌then◌else◌, Option, Some, None, option_map, unwrap_or, codes, Result}
+use Rattle.std.specs.Prelude.{◌≡◌, ℕ, zero, suc, ◌+◌, ◌-◌, ◌<◌, ◌==◌, ◌&&◌, ◌||◌, Bool, false, List, ◌∷◌, ◌++◌, length, All, map, take, drop, get_or, take_while, flat_map, decimal, nat_lt, nat_eq, if◌then◌else◌, is_some, Option, Some, None, option_map, unwrap_or, codes, Result}
 use Rattle.std.specs.Borrow.{Bor}
 use Rattle.std.specs.Char.{is_ascii_alphabetic, is_ascii_alphanumeric, is_ascii_digit, is_ascii_whitespace}
 use Rattle.std.specs.Cmp.Lexicographic.{pointwise}
@@ -13,7 +13,7 @@ use Rattle.const_oid.specs.declared.tables.Tables.{Tables}
 use Rattle.const_oid.specs.Base128.{value_of}
 use Rattle.const_oid.specs.Contents.{cut}
 use Rattle.const_oid.specs.Identifier.{root_rule}
-use Rattle.const_oid.specs.Names.{Entry, entries_of, first_name, first_oid, lent_arcs}
+use Rattle.const_oid.specs.Names.{Entry, entries_of, first_name, first_oid, lent_arcs, name_of}
 use Rattle.const_oid.specs.OidRef.{ref_arcs}
 use Rattle.const_oid.specs.Text.{dot, is_empty, text_answer, text_of}
 
@@ -120,3 +120,20 @@ pub record AreReadable (entries : Entries) : Type 0 where
   pub names : (arcs name : List ℕ) → shown entries arcs ≡ Some name → IsReadable name
   pub below : (arcs name later other : List ℕ) (arc : ℕ) → shown entries arcs ≡ Some name
       → led entries (name ++ dotted (arc ∷ later)) ≡ Some other → other ≡ arcs ++ arc ∷ later
+
+-- the first n bytes of a name are a name, too, and a dot and a digit follow
+abbrev pub is_front : Entries → List ℕ → ℕ → Bool
+is_front entries name n = (get_or name n 0 == dot && is_ascii_digit (get_or name (n + 1) 0)) && is_some (led entries (take n name))
+
+-- a name does not begin with a name and arcs
+abbrev pub HasNoFront : Entries → List ℕ → Type 0
+HasNoFront entries name = (n : ℕ) → is_front entries name n ≡ false
+
+-- a name is readable, and does not begin with a name and arcs
+pub record IsPlain (entries : Entries) (name : List ℕ) : Type 0 where
+  pub readable : IsReadable name
+  pub no_front : HasNoFront entries name
+
+-- each name of some entries is plain among all entries
+abbrev pub ArePlain : Entries → Entries → Type 0
+ArePlain entries some = All (λ entry. IsPlain entries (name_of entry).now) some

@@ -38,7 +38,7 @@ use crate::oid::Oid;
 /// ```
 #[derive(Copy, Clone)]
 pub struct Database<'a> {
-    entries: &'a [Entry<'a>],
+    pub(crate) entries: &'a [Entry<'a>],
     // Links by identifier, and by name. With no links, such a lookup reads all entries.
     oid_links: &'a [u16],
     name_links: &'a [u16],

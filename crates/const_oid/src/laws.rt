@@ -3,7 +3,7 @@
 //! A `rule` is either of the two rules of the root: `Wide`, which the crate keeps, or `Narrow`. An input is accepted if
 //! it has no fault. A group is the octets of one subidentifier.
 
-ghost use Rattle.std.specs.Prelude.{◌≡◌, ◌≢◌, ◌↔◌, ℕ, ◌+◌, ◌*◌, ◌^◌, ◌<◌, ◌≤◌, List, [], ◌∷◌, ◌++◌, length, map, drop, nat_lt, sum_by, count_by, true, Some, None, Ok, codes, ◌-◌, take, slice_get};
+ghost use Rattle.std.specs.Prelude.{◌≡◌, ◌≢◌, ◌↔◌, ℕ, ◌+◌, ◌*◌, ◌^◌, ◌<◌, ◌≤◌, List, [], ◌∷◌, ◌++◌, length, map, drop, nat_lt, sum_by, count_by, IsTrue, Some, None, Ok, codes, ◌-◌, take, slice_get};
 ghost use Rattle.std.specs.Cmp.{IsTotalOrder};
 ghost use Rattle.std.specs.Cmp.Lexicographic.{slice_cmp};
 ghost use Rattle.std.specs.List.{AllByRecursion, AllZip, concat};
@@ -337,10 +337,10 @@ pub fn no_overflow()
 
 /// Text that begins with a digit is parsed as dotted text, whatever the names are, and without blanks around it as it is.
 pub fn no_name_begins_with_a_digit()
-    ensures bare { (entries : Entries) (text : List ℕ) (capacity : ℕ) → begins_with_digit (bare text) ≡ true
+    ensures bare { (entries : Entries) (text : List ℕ) (capacity : ℕ) → IsTrue (begins_with_digit (bare text))
         → typed_answer entries text capacity ≡ text_answer root_rule (bare text) capacity }
     ensures whole { (entries : Entries) (text : List ℕ) (capacity : ℕ) → without_blanks text ≡ text
-        → begins_with_digit text ≡ true → typed_answer entries text capacity ≡ text_answer root_rule text capacity }
+        → IsTrue (begins_with_digit text) → typed_answer entries text capacity ≡ text_answer root_rule text capacity }
 {}
 
 /// A name and arcs are parsed as the name's arcs and these, unless the name and the first of these are a name, too.

@@ -28,6 +28,7 @@ pub mod oid_ref;
 pub mod outputs;
 mod parser;
 mod parts;
+mod readable;
 mod root;
 pub mod search;
 pub mod tables;

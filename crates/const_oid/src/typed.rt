@@ -47,7 +47,7 @@ impl Tables<'_> {
 
 /// The text without blanks around it, and then without a prefix.
 // erase: const
-fn bare(text: &[u8]) -> &[u8]
+pub(crate) fn bare(text: &[u8]) -> &[u8]
     ensures { result.now ≡ bare text.now }
 {
     let (start, end) = bare_range(text);
@@ -133,7 +133,7 @@ fn begins_with(start: &[u8], text: &[u8]) -> bool
 }
 
 /// The most bytes of a name that arcs may follow.
-const MAX_NAME_BYTES: usize = 255;
+pub(crate) const MAX_NAME_BYTES: usize = 255;
 
 /// The identifier of the longest name that a text begins with, and where the name ends.
 // erase: const

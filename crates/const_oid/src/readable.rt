@@ -1,0 +1,76 @@
+//! Tables whose names are read as they are displayed.
+
+ghost use Rattle.std.specs.Prelude.{◌≡◌, ◌<◌, ◌↔◌, IsTrue, length};
+ghost use Rattle.const_oid.specs.Typed.{ArePlain, AreReadable, HasNoFront, IsPlain, IsReadable, entries_in, is_front};
+
+use crate::compare::is_same_name;
+use crate::links::Entry;
+use crate::tables::Tables;
+use crate::typed::{MAX_NAME_BYTES, bare, begins_with_digit};
+
+impl<'a> Tables<'a> {
+    /// Whether each name is parsed as itself, alone and before arcs: then what these tables display of an identifier is
+    /// parsed as this identifier.
+    ///
+    /// A name that is not has a blank at an end or a prefix, begins with a digit, is empty, is `OID` in any case, is longer
+    /// than 255 bytes, or begins with another name, a dot and a digit.
+    pub fn is_readable(&self) -> bool
+        ensures plain { let entries = entries_in self.now in IsTrue result ↔ ArePlain entries entries }
+        ensures readable { IsTrue result → AreReadable (entries_in self.now) }
+    {
+        for table in self.0 {
+            if !self.are_plain(table.entries) {
+                return false;
+            }
+        }
+        true
+    }
+
+    /// Whether the names of entries are plain.
+    fn are_plain(&self, entries: &[Entry<'_>]) -> bool
+        ensures { IsTrue result ↔ ArePlain (entries_in self.now) entries.now }
+    {
+        entries
+            .iter()
+            .all(|entry| self.is_plain(entry.1.as_bytes()))
+    }
+
+    /// Whether a name is readable, and does not begin with a name and arcs.
+    fn is_plain(&self, name: &[u8]) -> bool
+        ensures { IsTrue result ↔ IsPlain (entries_in self.now) name.now }
+    {
+        is_readable_name(name) && self.has_no_front(name)
+    }
+
+    /// Whether a name does not begin with a name and arcs.
+    fn has_no_front(&self, name: &[u8]) -> bool
+        ensures { IsTrue result ↔ HasNoFront (entries_in self.now) name.now }
+    {
+        for end in 0..name.len() {
+            if self.is_front(name, end) {
+                return false;
+            }
+        }
+        true
+    }
+
+    /// Whether a name begins with a name that ends at an index, a dot and a digit.
+    fn is_front(&self, name: &[u8], end: usize) -> bool
+        requires { end < length name.now }
+        ensures { result ≡ is_front (entries_in self.now) name.now end }
+    {
+        let (front, rest) = name.split_at(end);
+        matches!(rest, [b'.', b'0'..=b'9', ..]) && self.by_name_bytes(front).is_some()
+    }
+}
+
+/// Whether a name is read as itself, alone and before arcs.
+fn is_readable_name(name: &[u8]) -> bool
+    ensures { IsTrue result ↔ IsReadable name.now }
+{
+    bare(name) == name
+        && !begins_with_digit(name)
+        && !name.is_empty()
+        && !is_same_name(name, b"OID")
+        && name.len() <= MAX_NAME_BYTES
+}
