@@ -56,3 +56,4 @@ pub mod SpeltOut
 pub mod Displayed
 pub mod Shown
 pub mod PlainNames
+pub mod Nearest

@@ -78,7 +78,7 @@ valid_prefix prefix rest ends some none =
     rw same at (fault_before root_rule (length (cut prefix)) (cut (prefix ++ rest)) (rw same (cut-some prefix some)) none)
 
 -- of two that octets begin with, the longer one begins with the other
-longer_begins : (prefix rest encoding more : List ℕ) → prefix ++ rest ≡ encoding ++ more → length encoding ≤ length prefix
+pub longer_begins : (prefix rest encoding more : List ℕ) → prefix ++ rest ≡ encoding ++ more → length encoding ≤ length prefix
     → BeginsWith prefix encoding
 longer_begins prefix rest encoding more joined within =
     let same : take (length encoding) prefix ≡ encoding =

@@ -1,5 +1,5 @@
 -- Tables of identifiers and names.
-use Rattle.std.specs.Prelude.{◌≡◌, ◌<◌, ◌++◌, ℕ, Bool, List, length, map, drop, filter, find, nat_eq, Option, Some, unwrap_or, Result}
+use Rattle.std.specs.Prelude.{◌≡◌, ◌<◌, ◌++◌, ℕ, Bool, List, length, map, drop, filter, find, flat_map, nat_eq, Option, Some, unwrap_or, Result}
 use Rattle.std.specs.Borrow.{Bor}
 use Rattle.std.specs.Cmp.Lexicographic.{pointwise}
 use Rattle.std.specs.List.{All}
@@ -84,6 +84,10 @@ entry_arcs entry = ref_arcs (oid_of entry)
 -- the entries of a sorted database, in table order
 abbrev pub sorted_entries_of : SortedDatabase → List (Entry ObjectIdentifierRef)
 sorted_entries_of database = database.entries.now
+
+-- the entries of sorted databases, those of one after those of the one before
+abbrev pub sorted_entries_in : List SortedDatabase → List (Entry ObjectIdentifierRef)
+sorted_entries_in databases = flat_map sorted_entries_of databases
 
 -- the item has the longest prefix of the arcs: its own arcs are a prefix of them, it is the first item with its arcs,
 -- and each item whose arcs are a prefix of them has a prefix of its own

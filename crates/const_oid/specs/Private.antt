@@ -3,6 +3,7 @@ pub mod Octets
 pub mod Encoder
 pub mod Groups
 pub mod Links
+pub mod Nearest
 pub mod Parser
 pub mod Prefixes
 pub mod Text

@@ -14,7 +14,7 @@ use crate::oid_ref::ObjectIdentifierRef;
 use crate::search::{Contents, end_of, first_of, nearest_of, subtree_of};
 
 /// An identifier and its name.
-type Entry<'a> = (ObjectIdentifierRef<'a>, &'a str);
+pub(crate) type Entry<'a> = (ObjectIdentifierRef<'a>, &'a str);
 
 /// A table of borrowed identifiers and their names, sorted by [`cmp_arcs`](ObjectIdentifierRef::cmp_arcs), so that a
 /// lookup is a binary search. An identifier may have several names, and a name several identifiers.

@@ -1,18 +1,21 @@
 //! Identifiers as people type and read them, by tables of names.
 
-ghost use Rattle.std.specs.Prelude.{◌≡◌, ◌++◌, drop, length, map, min, None, MatchOption, Some};
+ghost use Rattle.std.specs.Prelude.{◌≡◌, ◌++◌, drop, length, map, min, All, IfNone, IfSome, None, MatchOption, Some};
 ghost use Rattle.std.specs.Fmt.{WritesStyledOnOk};
 ghost use Rattle.std.specs.Option.{option_map};
 ghost use Rattle.const_oid.specs.Base128.{value_of};
 ghost use Rattle.const_oid.specs.Contents.{cut, later_fault};
+ghost use Rattle.const_oid.specs.Names.{IsNearest, entry_arcs, sorted_entries_in};
 ghost use Rattle.const_oid.specs.Oid.{oid_arcs};
 ghost use Rattle.const_oid.specs.OidRef.{ref_arcs, ref_octets};
 ghost use Rattle.const_oid.specs.Output.{Writes};
+ghost use Rattle.const_oid.specs.Private.Nearest.{IsNearer};
 ghost use Rattle.const_oid.specs.Text.{text_of};
 ghost use Rattle.const_oid.specs.Tree.{BeginsWith};
 
 use crate::arcs::Arcs;
-use crate::db::Database;
+use crate::db::{Database, SortedDatabase};
+use crate::db_sorted::Entry;
 use crate::digits::{MAX_ARC_LEN, utf8, write_arc, write_bytes};
 use crate::oid::Oid;
 use crate::oid_ref::ObjectIdentifierRef;
@@ -21,6 +24,23 @@ use crate::text::{text_len, write_dotted};
 use std::fmt;
 
 /// Tables of names, which are asked in their order.
+///
+/// # Examples
+///
+/// ```
+/// use const_oid::{ObjectIdentifier, db::{COMMON, DB, Database, Tables}};
+///
+/// const LAMP: ObjectIdentifier = ObjectIdentifier::new_unwrap("1.3.6.1.4.1.32473.1");
+/// const OURS: Database<'static> = Database::new(&[(&LAMP, "lamp")]);
+/// const NAMES: Tables<'static> = Tables(&[OURS, DB, COMMON]);
+///
+/// let oid = LAMP.push_arc(3)?;
+/// let shown = NAMES.display(&oid);
+/// assert_eq!((shown.to_string().as_str(), shown.text_len()), ("lamp.3", 6));
+/// assert_eq!((NAMES.by_name("Lamp"), NAMES.by_oid(&LAMP)), (Some(&LAMP), Some("lamp")));
+/// assert_eq!(shown.encode_text(&mut [0; 5]), None);
+/// # Ok::<(), const_oid::Error>(())
+/// ```
 #[derive(Copy, Clone)]
 pub struct Tables<'a>(pub &'a [Database<'a>]);
 
@@ -28,7 +48,8 @@ impl<'a> Tables<'a> {
     ghost use Rattle.const_oid.specs.Names.{first_name, first_oid, lent_arcs};
     ghost use Rattle.const_oid.specs.Typed.{displayed, displayed_by, dotted, entries_in, shown};
 
-    /// The identifier that a name has in the first table that has it, ignoring ASCII case, or `None`.
+    /// The identifier that a name has in the first table that has it, ignoring ASCII case, or `None`. [`Tables`] has an
+    /// example.
     // erase: const
     #[inline]
     pub fn by_name(&self, name: &str) -> Option<&'a Oid>
@@ -52,7 +73,7 @@ impl<'a> Tables<'a> {
         None
     }
 
-    /// The name of an identifier in the first table that has one, or `None`.
+    /// The first name of an identifier in the first table that has one, or `None`. [`Tables`] has an example.
     // erase: const
     pub fn by_oid(&self, oid: &Oid) -> Option<&'a str>
         ensures { result ≡ first_name lent_arcs (entries_in self.now) (oid_arcs oid.now) }
@@ -80,6 +101,7 @@ impl<'a> Tables<'a> {
             None
         }
     }
+
     /// The text of an identifier: the name that is shown for its longest prefix with one, and a dot and a decimal for
     /// each arc after it, or else dotted text. [`Tables`] has an example.
     pub fn display(&self, oid: ObjectIdentifierRef<'a>) -> Display<'a>
@@ -141,7 +163,8 @@ pub struct Display<'a> {
 impl Display<'_> {
     ghost use Rattle.const_oid.specs.Typed.{displayed_by, dotted};
 
-    /// The length in bytes of the text that `{}` writes, or `usize::MAX` if it is greater than that.
+    /// The length in bytes of the text that `{}` writes, or `usize::MAX` if it is greater than that. [`Tables`] has an
+    /// example.
     pub fn text_len(&self) -> usize
         ensures { result ≡ min (length (displayed_by self.now)) usize.MAX }
     {
@@ -153,7 +176,7 @@ impl Display<'_> {
     }
 
     /// Writes the text that `{}` writes to the start of `out`, and returns its length in bytes. Returns `None` if it is
-    /// longer than `out`, which is then unchanged.
+    /// longer than `out`, which is then unchanged. [`Tables`] has an example.
     pub fn encode_text(&self, out: &mut [u8]) -> Option<usize>
         ensures written { Writes (displayed_by self.now) out.old out.new result }
         ensures kept { result ≡ None → out.new ≡ out.old }
@@ -194,5 +217,38 @@ impl fmt::Display for Display<'_> {
         };
         f.write_str(name)?;
         self.write_below(f)
+    }
+}
+
+/// The entry with the longest prefix of an identifier in sorted tables, the first one in the first table that has it, or
+/// `None` if no table has a prefix.
+pub fn nearest_in<'a>(
+    tables: &[SortedDatabase<'a>],
+    oid: ObjectIdentifierRef<'_>,
+) -> Option<&'a Entry<'a>>
+    ensures found { IfSome result (λ entry. IsNearest (sorted_entries_in tables.now) (ref_arcs oid.entry) entry.now) }
+    ensures none { IfNone result (All (λ entry. BeginsWith (ref_arcs oid.entry) (entry_arcs entry) → ⊥) (sorted_entries_in tables.now)) }
+{
+    let mut nearest = None;
+    for table in tables {
+        nearest = nearer(nearest, table.nearest(oid));
+    }
+    nearest
+}
+
+/// The one of two entries with the longer identifier, which is the nearest in the entries of both.
+fn nearer<'a>(first: Option<&'a Entry<'a>>, later: Option<&'a Entry<'a>>) -> Option<&'a Entry<'a>>
+    ensures { IsNearer first.entry later.entry result }
+{
+    let Some(entry) = first else {
+        return later;
+    };
+    let Some(other) = later else {
+        return first;
+    };
+    if entry.0.as_bytes().len() < other.0.as_bytes().len() {
+        later
+    } else {
+        first
     }
 }

@@ -4,9 +4,11 @@
 //!
 //! A [`Database`] is a table in any order, for lookups in constants and by name. A [`SortedDatabase`] has the order of
 //! arcs: a lookup is a binary search, and it also finds the nearest name, subtrees, and what GetNext of SNMP returns.
+//! [`Tables`] and [`nearest_in`] ask tables of yours, alone or beside these.
 
 pub use crate::erased::db::{Database, Names, SortedDatabase};
-pub use crate::named::{Display, display, nearest, parse};
+pub use crate::erased::tables::{Display, Tables, nearest_in};
+pub use crate::named::{display, nearest, parse};
 
 use crate::arcs::List;
 use crate::{Buffer, ObjectIdentifier, ObjectIdentifierRef};
@@ -132,6 +134,9 @@ const fn padded([used, bytes @ ..]: [u8; 40]) -> ObjectIdentifier {
     ObjectIdentifier { ber: Buffer { bytes, used, aligned: [] } }
 }
 
+/// The tables that the functions here ask.
+pub(crate) const TABLES: Tables<'static> = Tables(&[DB, COMMON]);
+
 /// The identifier with a name, ignoring ASCII case, in [`DB`], or else in [`COMMON`], or `None`.
 ///
 /// # Examples
@@ -145,13 +150,13 @@ const fn padded([used, bytes @ ..]: [u8; 40]) -> ObjectIdentifier {
 /// ```
 #[must_use]
 pub const fn by_name(name: &str) -> Option<&'static ObjectIdentifier> {
-    if let Some(oid) = DB.by_name(name) { Some(oid) } else { COMMON.by_name(name) }
+    TABLES.by_name(name)
 }
 
 /// The first name of an identifier in [`DB`], or else in [`COMMON`], or `None`. [`by_name`] has an example.
 #[must_use]
 pub const fn by_oid(oid: &ObjectIdentifier) -> Option<&'static str> {
-    if let Some(name) = DB.by_oid(oid) { Some(name) } else { COMMON.by_oid(oid) }
+    TABLES.by_oid(oid)
 }
 
 /// The links of both tables are what [`links_of`] makes.

@@ -1,9 +1,8 @@
 //! Identifiers as people type and read them.
 
-use crate::db::{COMMON_SORTED, SORTED, by_name, by_oid};
-use crate::{Arc, Error, ObjectIdentifier, ObjectIdentifierRef, Oid, Result};
-use core::fmt;
-use core::iter::{once, successors};
+use crate::db::{COMMON_SORTED, Display, SORTED, TABLES, by_name, nearest_in};
+use crate::{Arc, Error, ObjectIdentifier, ObjectIdentifierRef, Result};
+use core::iter::once;
 
 /// Parses what people type and paste: dotted text, a name, or a name and arcs. [`display`] is the way back.
 ///
@@ -74,33 +73,13 @@ fn with_arcs<const N: usize>(mut oid: ObjectIdentifier<N>, arcs: &str) -> Result
 /// [`SORTED`], or `None`. [`parse`] has an example.
 #[must_use]
 pub fn nearest(oid: &ObjectIdentifierRef) -> Option<&'static (&'static ObjectIdentifierRef, &'static str)> {
-    let nearest = [COMMON_SORTED, SORTED].into_iter().filter_map(|table| table.nearest(oid));
-    nearest.max_by_key(|entry| entry.0.as_bytes().len())
+    nearest_in(&[SORTED, COMMON_SORTED], oid)
 }
 
-/// What [`display`] returns.
-#[derive(Clone, Copy, Debug)]
-pub struct Display<'a>(&'a ObjectIdentifierRef);
-
-/// Writes the name of an identifier by [`by_oid`], or that of its longest prefix with one, and the arcs after it, or
+/// The text of an identifier: its name by [`by_oid`](crate::db::by_oid), or that of its longest prefix with one, and the arcs after it, or
 /// else dotted text. A name that leads elsewhere, such as a second `hashAlgs`, is none, so [`parse`] reads what is
 /// written as the same identifier. It has an example.
 #[must_use]
 pub fn display(oid: &ObjectIdentifierRef) -> Display<'_> {
-    Display(oid)
-}
-
-/// Width and fill are ignored, as by that of the identifier.
-impl fmt::Display for Display<'_> {
-    fn fmt(&self, f: &mut fmt::Formatter<'_>) -> fmt::Result {
-        let named = |prefix| {
-            let oid = Oid::try_from(prefix).ok()?;
-            Some((prefix, by_oid(&oid).filter(|name| by_name(name) == Some(&oid))?))
-        };
-        let Some((prefix, name)) = successors(Some(self.0), |oid| oid.parent()).find_map(named) else {
-            return self.0.fmt(f);
-        };
-        f.write_str(name)?;
-        self.0.strip_prefix(prefix).into_iter().flatten().try_for_each(|arc| write!(f, ".{arc}"))
-    }
+    TABLES.display(oid)
 }

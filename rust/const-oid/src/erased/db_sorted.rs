@@ -7,7 +7,7 @@ use crate::erased::oid_ref::ObjectIdentifierRef;
 use crate::erased::search::{Contents, end_of, first_of, nearest_of, subtree_of};
 
 /// An identifier and its name.
-type Entry<'a> = (&'a ObjectIdentifierRef, &'a str);
+pub(crate) type Entry<'a> = (&'a ObjectIdentifierRef, &'a str);
 
 /// A table of borrowed identifiers and their names, sorted by [`cmp_arcs`](ObjectIdentifierRef::cmp_arcs), so that a
 /// lookup is a binary search. An identifier may have several names, and a name several identifiers.

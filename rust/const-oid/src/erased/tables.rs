@@ -3,7 +3,8 @@
 //! Identifiers as people type and read them, by tables of names.
 
 use crate::erased::arcs::Arcs;
-use crate::erased::db::Database;
+use crate::erased::db::{Database, SortedDatabase};
+use crate::erased::db_sorted::Entry;
 use crate::erased::digits::{MAX_ARC_LEN, utf8, write_arc, write_bytes};
 use crate::erased::oid::Oid;
 use crate::erased::oid_ref::ObjectIdentifierRef;
@@ -12,11 +13,29 @@ use crate::erased::text::{text_len, write_dotted};
 use core::fmt;
 
 /// Tables of names, which are asked in their order.
-#[derive(Copy, Clone)]
+///
+/// # Examples
+///
+/// ```
+/// use const_oid::{ObjectIdentifier, db::{COMMON, DB, Database, Tables}};
+///
+/// const LAMP: ObjectIdentifier = ObjectIdentifier::new_unwrap("1.3.6.1.4.1.32473.1");
+/// const OURS: Database<'static> = Database::new(&[(&LAMP, "lamp")]);
+/// const NAMES: Tables<'static> = Tables(&[OURS, DB, COMMON]);
+///
+/// let oid = LAMP.push_arc(3)?;
+/// let shown = NAMES.display(&oid);
+/// assert_eq!((shown.to_string().as_str(), shown.text_len()), ("lamp.3", 6));
+/// assert_eq!((NAMES.by_name("Lamp"), NAMES.by_oid(&LAMP)), (Some(&LAMP), Some("lamp")));
+/// assert_eq!(shown.encode_text(&mut [0; 5]), None);
+/// # Ok::<(), const_oid::Error>(())
+/// ```
+#[derive(Copy, Clone, Debug)]
 pub struct Tables<'a>(pub &'a [Database<'a>]);
 
 impl<'a> Tables<'a> {
-    /// The identifier that a name has in the first table that has it, ignoring ASCII case, or `None`.
+    /// The identifier that a name has in the first table that has it, ignoring ASCII case, or `None`. [`Tables`] has an
+    /// example.
     #[inline]
     #[must_use]
     pub const fn by_name(&self, name: &str) -> Option<&'a Oid> {
@@ -35,7 +54,7 @@ impl<'a> Tables<'a> {
         None
     }
 
-    /// The name of an identifier in the first table that has one, or `None`.
+    /// The first name of an identifier in the first table that has one, or `None`. [`Tables`] has an example.
     #[must_use]
     pub const fn by_oid(&self, oid: &Oid) -> Option<&'a str> {
         let mut left = self.0;
@@ -55,6 +74,7 @@ impl<'a> Tables<'a> {
         let other = self.by_name(name)?;
         if other.eq_last_first(&oid) { Some(name) } else { None }
     }
+
     /// The text of an identifier: the name that is shown for its longest prefix with one, and a dot and a decimal for
     /// each arc after it, or else dotted text. [`Tables`] has an example.
     #[must_use]
@@ -83,7 +103,7 @@ fn octets_after<'a>(oid: &'a ObjectIdentifierRef, prefix: &ObjectIdentifierRef) 
 }
 
 /// The text of an identifier by tables of names, as [`Tables::display`] returns it.
-#[derive(Copy, Clone)]
+#[derive(Copy, Clone, Debug)]
 pub struct Display<'a> {
     oid: &'a ObjectIdentifierRef,
     // The name of a prefix, if it is shown, and the octets after those of the prefix.
@@ -92,7 +112,8 @@ pub struct Display<'a> {
 }
 
 impl Display<'_> {
-    /// The length in bytes of the text that `{}` writes, or `usize::MAX` if it is greater than that.
+    /// The length in bytes of the text that `{}` writes, or `usize::MAX` if it is greater than that. [`Tables`] has an
+    /// example.
     #[must_use]
     pub fn text_len(&self) -> usize {
         let Some(name) = self.name else {
@@ -103,7 +124,7 @@ impl Display<'_> {
     }
 
     /// Writes the text that `{}` writes to the start of `out`, and returns its length in bytes. Returns `None` if it is
-    /// longer than `out`, which is then unchanged.
+    /// longer than `out`, which is then unchanged. [`Tables`] has an example.
     #[must_use]
     pub fn encode_text(&self, out: &mut [u8]) -> Option<usize> {
         let Some(name) = self.name else {
@@ -135,4 +156,26 @@ impl fmt::Display for Display<'_> {
         f.write_str(name)?;
         self.write_below(f)
     }
+}
+
+/// The entry with the longest prefix of an identifier in sorted tables, the first one in the first table that has it, or
+/// `None` if no table has a prefix.
+#[must_use]
+pub fn nearest_in<'a>(tables: &[SortedDatabase<'a>], oid: &ObjectIdentifierRef) -> Option<&'a Entry<'a>> {
+    let mut nearest = None;
+    for table in tables {
+        nearest = nearer(nearest, table.nearest(oid));
+    }
+    nearest
+}
+
+/// The one of two entries with the longer identifier, which is the nearest in the entries of both.
+fn nearer<'a>(first: Option<&'a Entry<'a>>, later: Option<&'a Entry<'a>>) -> Option<&'a Entry<'a>> {
+    let Some(entry) = first else {
+        return later;
+    };
+    let Some(other) = later else {
+        return first;
+    };
+    if entry.0.as_bytes().len() < other.0.as_bytes().len() { later } else { first }
 }
