@@ -51,7 +51,7 @@ pub(crate) fn bare(text: &[u8]) -> &[u8]
     ensures { result.now ≡ bare text.now }
 {
     let (start, end) = bare_range(text);
-    &text[start..end]
+    text.split_at(start).1.split_at(end - start).0
 }
 
 /// Where the text without blanks around it, and then without a prefix, is in the text: its start and its end.

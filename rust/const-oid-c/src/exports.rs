@@ -300,3 +300,34 @@ pub unsafe extern "C" fn const_oid_push_arc(
     // SAFETY: the caller guarantees it.
     unsafe { crate::erased::tree::const_oid_push_arc(input(octets, octets_len), arc, output(out, out_len)) }
 }
+
+/// # Safety
+///
+/// The header says what a caller guarantees.
+#[unsafe(no_mangle)]
+pub unsafe extern "C" fn const_oid_bare_text(text: *const u8, text_len: usize, range: *mut Range) -> Status {
+    // SAFETY: the caller guarantees it.
+    unsafe { crate::erased::typed::const_oid_bare_text(input(text, text_len), &mut output(range, 1)[0]) }
+}
+
+/// # Safety
+///
+/// The header says what a caller guarantees.
+#[unsafe(no_mangle)]
+pub unsafe extern "C" fn const_oid_to_text_below(
+    octets: *const u8,
+    octets_len: usize,
+    prefix: *const u8,
+    prefix_len: usize,
+    out: *mut u8,
+    out_len: usize,
+) -> Status {
+    // SAFETY: the caller guarantees it.
+    unsafe {
+        crate::erased::typed::const_oid_to_text_below(
+            input(octets, octets_len),
+            input(prefix, prefix_len),
+            output(out, out_len),
+        )
+    }
+}

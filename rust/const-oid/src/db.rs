@@ -8,10 +8,9 @@
 
 pub use crate::erased::db::{Database, Names, SortedDatabase};
 pub use crate::erased::tables::{Display, Tables, nearest_in};
-pub use crate::named::{display, nearest, parse};
 
 use crate::arcs::List;
-use crate::{Buffer, ObjectIdentifier, ObjectIdentifierRef};
+use crate::{Buffer, ObjectIdentifier, ObjectIdentifierRef, Result};
 use core::fmt;
 use core::iter::FusedIterator;
 
@@ -135,7 +134,7 @@ const fn padded([used, bytes @ ..]: [u8; 40]) -> ObjectIdentifier {
 }
 
 /// The tables that the functions here ask.
-pub(crate) const TABLES: Tables<'static> = Tables(&[DB, COMMON]);
+const TABLES: Tables<'static> = Tables(&[DB, COMMON]);
 
 /// The identifier with a name, ignoring ASCII case, in [`DB`], or else in [`COMMON`], or `None`.
 ///
@@ -157,6 +156,40 @@ pub const fn by_name(name: &str) -> Option<&'static ObjectIdentifier> {
 #[must_use]
 pub const fn by_oid(oid: &ObjectIdentifier) -> Option<&'static str> {
     TABLES.by_oid(oid)
+}
+
+/// Parses what people type and paste: dotted text, a name, or a name and arcs. [`display`] is the way back.
+///
+/// [`Tables::parse`] says what a text may be, and has its errors.
+///
+/// # Examples
+///
+/// ```
+/// use const_oid::{Error, ObjectIdentifier, db};
+///
+/// let oid: ObjectIdentifier = db::parse(" IF-MIB::ifDescr.3\n")?;
+/// assert_eq!((&*oid.to_string(), &*db::display(&oid).to_string()), ("1.3.6.1.2.1.2.2.1.2.3", "ifDescr.3"));
+/// assert_eq!(db::nearest(&oid).unwrap().1, "ifDescr");
+/// assert_eq!(db::parse::<39>("no name"), Err(Error::DigitExpected { actual: b'n' }));
+/// # Ok::<(), Error>(())
+/// ```
+pub const fn parse<const MAX_SIZE: usize>(text: &str) -> Result<ObjectIdentifier<MAX_SIZE>> {
+    TABLES.parse(text)
+}
+
+/// The first entry of [`SORTED`] or [`COMMON_SORTED`] with the longest prefix of an identifier, of one in both that of
+/// [`SORTED`], or `None`. [`parse`] has an example.
+#[must_use]
+pub fn nearest(oid: &ObjectIdentifierRef) -> Option<&'static (&'static ObjectIdentifierRef, &'static str)> {
+    nearest_in(&[SORTED, COMMON_SORTED], oid)
+}
+
+/// The text of an identifier: its name by [`by_oid`], or that of its longest prefix with one, and the arcs after it, or
+/// else dotted text. A name that leads elsewhere, such as a second `hashAlgs`, is none, so [`parse`] reads what is
+/// written as the same identifier. It has an example.
+#[must_use]
+pub fn display(oid: &ObjectIdentifierRef) -> Display<'_> {
+    TABLES.display(oid)
 }
 
 /// The links of both tables are what [`links_of`] makes.

@@ -39,7 +39,6 @@ mod conversions;
 #[doc(hidden)]
 pub mod internal_for_const_oid_c;
 #[cfg(feature = "db")]
-mod named;
 mod traits;
 
 pub use by_arcs::ByArcs;

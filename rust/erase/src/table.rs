@@ -105,7 +105,7 @@ pub const CRATES: &[Crate] = &[
                 => "pub(crate) oid_links: &'a [u16],\npub(crate) name_links: &'a [u16],", "a unit test sees them";
             "tables*": "#[derive(Copy, Clone)] pub struct" => "#[derive(Copy, Clone, Debug)]\npub struct", "for users";
             "db_sorted": "pub const fn new" => "pub const fn new_unchecked", "no checker rejects a wrong order";
-            "": "entries: &'a [Entry<'a>]," => "pub(crate) entries: &'a [Entry<'a>],", "a caller by hand lists the entries";
+            "db_sorted": "entries: &'a [Entry<'a>]," => "pub(crate) entries: &'a [Entry<'a>],", "a caller by hand lists the entries";
             "digits": "pub(crate) fn utf8" => "#[allow(unsafe_code)]\npub(crate) fn utf8",
                 "bytes that are UTF-8 become a text without a check: the crate denies other unsafe code";
             "digits" body: "out[at] = byte;"

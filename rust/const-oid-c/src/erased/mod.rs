@@ -14,3 +14,4 @@ pub mod output;
 pub mod status;
 pub mod texts;
 pub mod tree;
+pub mod typed;

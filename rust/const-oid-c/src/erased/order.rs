@@ -63,7 +63,10 @@ pub fn const_oid_by_arcs(left: &Octets<'_>, right: &Octets<'_>) -> i32 {
 
 /// Reads two identifiers of any length. The error is that of the first one that is not valid.
 #[inline]
-fn read_both<'a>(left: &'a [u8], right: &'a [u8]) -> Result<(&'a ObjectIdentifierRef, &'a ObjectIdentifierRef)> {
+pub(crate) fn read_both<'a>(
+    left: &'a [u8],
+    right: &'a [u8],
+) -> Result<(&'a ObjectIdentifierRef, &'a ObjectIdentifierRef)> {
     let left = ObjectIdentifierRef::from_bytes(left)?;
     let right = ObjectIdentifierRef::from_bytes(right)?;
     Ok((left, right))

@@ -114,7 +114,7 @@ const fn first_difference(a: &[u8], b: &[u8], start: usize, end: usize) -> usize
 
 /// The lesser of two numbers: constants cannot call `usize::min`.
 #[inline(always)]
-const fn lesser(a: usize, b: usize) -> usize {
+pub(crate) const fn lesser(a: usize, b: usize) -> usize {
     if a < b { a } else { b }
 }
 

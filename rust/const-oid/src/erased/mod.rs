@@ -26,11 +26,14 @@ pub mod oid_ref;
 pub mod outputs;
 mod parser;
 mod parts;
+mod readable;
 mod root;
 pub mod search;
 #[cfg(feature = "db")]
 pub mod tables;
 pub(crate) mod text;
+// One of its functions is for C.
+pub mod typed;
 mod valid;
 
 pub use arcs::Arcs;
