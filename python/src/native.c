@@ -188,17 +188,30 @@ static inline PyObject *from_copy(PyObject *type, PyObject *given, int is_whole)
 
 static PyObject *identifier_from_der(PyObject *type, PyObject *given) { return from_copy(type, given, 1); }
 
-/* The rest of a memoryview of bytes in a row is one, so that a loop over elements copies their octets alone. */
+/* How many octets to copy of those that begin with an element: its own, and what an error keeps. */
+static size_t copied_len(const uint8_t *octets, size_t most) {
+    if (most <= KEPT_OCTETS) return most;
+    size_t len = 0, count = octets[1] ^ 128u; /* of octets of a length above 127, or else more than there can be */
+    for (size_t index = 2; count <= sizeof len && index < 2 + count; index++) len = len << 8 | octets[index];
+    len += 2 + count;
+    if (len < KEPT_OCTETS) return KEPT_OCTETS;
+    return len < most ? len : most;
+}
+
+/* The rest of a memoryview of bytes in a row is one, so that a loop over elements copies their octets alone. Others may
+ * write to its memory meanwhile, so what is checked is the copy. */
 static PyObject *identifier_read_der(PyObject *type, PyObject *given) {
     Py_buffer view;
     if (!PyMemoryView_Check(given)) return from_copy(type, given, 0);
     OWNED *row = PyMemoryView_GetContiguous(given, PyBUF_READ, 'C');
     if (!row || PyObject_GetBuffer(row, &view, PyBUF_FULL_RO)) return NULL;
-    const_oid_octets items = {view.buf, (size_t)view.len};
+    OUTPUT copy;
     int is_row = view.ndim == 1 && view.itemsize == 1;
-    PyObject *pair = is_row ? from_element(type, row, items, 0) : NULL;
+    int has_room = reserve(&copy, is_row ? copied_len(view.buf, (size_t)view.len) : 0, 1);
+    if (has_room) memcpy(copy.start, view.buf, copy.len);
     PyBuffer_Release(&view);
-    return is_row ? pair : from_copy(type, given, 0);
+    if (!is_row) return from_copy(type, given, 0);
+    return has_room ? from_element(type, row, (const_oid_octets){copy.start, copy.len}, 0) : NULL;
 }
 
 /* An integer, or the greatest of 64 bits in place of all that are greater. It is negative with an exception. */

@@ -4,10 +4,11 @@
 #include "native.h"
 #include <stdlib.h>
 
-/* The most keys of a part, two or more, so that one more moves few of them. */
+/* The most keys of a part, while parts are few, so that one more moves few of them: see most_of. */
 #ifndef PART
 #define PART 64
 #endif
+_Static_assert(PART > 1, "a part is split in two");
 
 /* The most entries of a table: their indices have less than 32 bits. */
 #define MOST (UINT32_C(1) << 30)
@@ -22,7 +23,7 @@ typedef struct {
     PyObject *key; /* an identifier, or NULL where no entry is */
     union {
         PyObject *value;
-        size_t vacant; /* of no entry, the number of another one: see add and exchange */
+        size_t vacant; /* of no entry, the number of another one: see add */
     };
     Code code;
 } Entry;
@@ -38,7 +39,7 @@ typedef struct {
 typedef struct {
     Code bound;
     uint32_t *indices;
-    uint16_t count, room;
+    uint32_t count, room;
 } Part;
 
 /* The number of an entry is one more than its index, and 0 is none. */
@@ -62,6 +63,8 @@ typedef struct {
     PyObject_HEAD
     Tree tree;
 } Table;
+
+#define INLINE static inline __attribute__((always_inline))
 
 /* ---- Entries and runs ---- */
 
@@ -91,7 +94,7 @@ static inline uint64_t word_of(const uint8_t *octets) {
  * differ, the keys are in their order. */
 static Code encode(const const_oid_octets *items) {
     uint8_t room[24] = {0}, *out = room, *number = NULL;
-    const uint8_t *octets = items->octets, *end = octets + items->len;
+    const uint8_t *octets = items->octets, *end = octets + (items->len < 16 ? items->len : 16); /* so they have room */
     while (octets < end && (number || out < &room[12])) {
         uint8_t octet = *octets++;
         if (!number && octet > 127) *(number = out++) = 128;
@@ -122,10 +125,18 @@ static inline Code code_of(Entry *entry) {
     return entry->code;
 }
 
-/* Compares the key of an entry with some items and their code. */
-static inline int compare(Entry *entry, const const_oid_octets *items, Code code) {
+INLINE int begins_with(const Entry *entry, const const_oid_octets *start) {
+    const const_oid_octets *items = items_of(entry->key);
+    return start->len <= items->len && !memcmp(start->octets, items->octets, start->len);
+}
+
+/* Compares the key of an entry with some items and their code. If it is before a key that begins with the items, it is
+ * not after them unless it does, too. */
+INLINE int compare(Entry *entry, const const_oid_octets *items, Code code, int is_before) {
     int order = compare_codes(code_of(entry), code);
-    return order ? order : const_oid_by_arcs(items_of(entry->key), items);
+    if (order) return order;
+    if (!is_before) return const_oid_by_arcs(items_of(entry->key), items);
+    return begins_with(entry, items) ? items_of(entry->key)->len > items->len : -1;
 }
 
 /* Makes room for more entries, or raises MemoryError. */
@@ -275,34 +286,39 @@ static Entry *last_entry(const Tree *tree, uint32_t at) {
     return &tree->entries[part->indices[part->count - 1]];
 }
 
-/* The part for a key with some items and their code. */
-static uint32_t find_part(const Tree *tree, const const_oid_octets *items, Code code) {
+/* The part, up to one, for a key with some items and their code. */
+INLINE uint32_t find_part(const Tree *tree, uint32_t end, const const_oid_octets *items, Code code, int is_before) {
     uint32_t first = 0;
-    for (uint32_t end = tree->part_count - 1; first < end;) {
+    while (first < end) {
         uint32_t middle = (first + end) / 2;
         int order = compare_codes(tree->parts[middle].bound, code);
-        if (!order) order = compare(last_entry(tree, middle), items, code);
+        if (!order) order = compare(last_entry(tree, middle), items, code, is_before);
         first = order < 0 ? middle + 1 : first;
         end = order < 0 ? end : middle;
     }
     return first;
 }
 
-/* The place of some items: after all keys that are before them. That after all is found at once. */
-static Place find(const Tree *tree, const const_oid_octets *items, Code code) {
-    uint32_t last = tree->part_count - 1;
-    if (!tree->size) return (Place){0, 0, 0};
-    if (compare(last_entry(tree, last), items, code) < 0) return (Place){last, tree->parts[last].count, 0};
-    Place place = {find_part(tree, items, code), 0, 0};
+/* The place of some items up to one: after all keys that are before them. */
+INLINE Place find_up_to(const Tree *tree, Place most, const const_oid_octets *items, Code code, int is_before) {
+    Place place = {find_part(tree, most.part, items, code, is_before), 0, 0};
     const Part *part = &tree->parts[place.part];
-    for (uint32_t end = part->count; place.index < end;) {
+    for (uint32_t end = place.part < most.part ? part->count : most.index; place.index < end;) {
         uint32_t middle = (place.index + end) / 2;
-        int order = compare(&tree->entries[part->indices[middle]], items, code);
+        int order = compare(&tree->entries[part->indices[middle]], items, code, is_before);
         if (!order) return (Place){place.part, middle, 1};
         if (order < 0) place.index = middle + 1;
         else end = middle;
     }
     return place;
+}
+
+/* The same among all. That after all is found at once. */
+static Place find(const Tree *tree, const const_oid_octets *items, Code code) {
+    uint32_t last = tree->part_count - 1;
+    if (!tree->size) return (Place){0, 0, 0};
+    Place end = {last, tree->parts[last].count, 0};
+    return compare(last_entry(tree, last), items, code, 0) < 0 ? end : find_up_to(tree, end, items, code, 0);
 }
 
 static Place place_of(const Tree *tree, Entry *entry) { return find(tree, items_of(entry->key), code_of(entry)); }
@@ -313,12 +329,15 @@ static const Entry *entry_up_to(const Tree *tree, Place place) {
     return &tree->entries[tree->parts[place.part].indices[place.index - !place.is_there]];
 }
 
+/* The most keys of a part. They grow with the number of parts, all of which may have to move for one more. */
+static uint32_t most_of(const Tree *tree) { return tree->part_count < 32 * PART ? PART : tree->part_count / 32; }
+
 /* Gives a part room for at least one index more than a count: for a multiple of eight, which is 32 octets. */
 static int resize(Part *part, uint32_t count) {
     uint32_t room = (count | 7) + 1, *indices = PyMem_Realloc(part->indices, room * sizeof *indices);
     if (!indices) return -1;
     part->indices = indices;
-    part->room = (uint16_t)room;
+    part->room = room;
     return 0;
 }
 
@@ -343,14 +362,16 @@ static int add_part(Tree *tree, uint32_t at, uint32_t count) {
 static int make_room(Tree *tree, Place *place) {
     if (!tree->part_count) return add_part(tree, 0, 0);
     Part *first = &tree->parts[place->part];
-    if (first->count < PART) return first->count < first->room ? 0 : resize(first, first->count);
-    uint32_t kept = place->part == tree->part_count - 1 && place->index == PART ? PART : PART / 2, moved = PART - kept;
+    uint32_t count = first->count;
+    if (count < most_of(tree)) return count < first->room ? 0 : resize(first, count);
+    int is_last = place->part == tree->part_count - 1 && place->index == count;
+    uint32_t kept = is_last ? count : count / 2, moved = count - kept;
     uint32_t is_moved = place->index >= kept;
     if (add_part(tree, place->part + 1, moved - !is_moved)) return -1;
     first = &tree->parts[place->part];
     memcpy(first[1].indices, &first->indices[kept], moved * sizeof *first->indices);
-    first[1] = (Part){first->bound, first[1].indices, (uint16_t)moved, first[1].room};
-    first->count = (uint16_t)kept;
+    first[1] = (Part){first->bound, first[1].indices, moved, first[1].room};
+    first->count = kept;
     first->bound = code_of(last_entry(tree, place->part));
     if (moved) resize(first, kept - is_moved); /* to less, or else it stays as it is */
     if (is_moved) *place = (Place){place->part + 1, place->index - kept, 0};
@@ -359,11 +380,65 @@ static int make_room(Tree *tree, Place *place) {
 
 /* ---- Changes ---- */
 
-/* Puts an entry in, whose key is not there, where one was taken out, or else after all. Takes over its references and
- * returns the number, or 0 without memory. */
-static uint32_t add(Tree *tree, Entry entry) {
+/* Gives up a tree that no table has any more. */
+static void drop_tree(Tree tree) {
+    Run run = {.entries = tree.entries, .count = tree.used};
+    while (tree.part_count) PyMem_Free(tree.parts[--tree.part_count].indices);
+    PyMem_Free(tree.parts);
+    PyMem_Free(tree.slots);
+    drop(&run);
+}
+
+/* Takes all entries out, and then gives them up. */
+static void clear(Tree *tree) {
+    Tree before = *tree;
+    *tree = (Tree){.version = before.version + (before.size > 0)};
+    drop_tree(before);
+}
+
+/* Puts entries that are in order into parts. */
+static int fill_parts(Tree *tree) {
+    for (uint32_t index = 0; index < tree->size;) {
+        uint32_t left = tree->size - index, most = most_of(tree), count = left < most ? left : most;
+        if (add_part(tree, tree->part_count, count - 1)) return -1;
+        Part *part = &tree->parts[tree->part_count - 1];
+        for (uint32_t at = 0; at < count; at++) part->indices[at] = index++;
+        part->count = count;
+        part->bound = code_of(&tree->entries[index - 1]);
+    }
+    return 0;
+}
+
+/* Gives a tree the entries of a run, which are in order, in place of its own. */
+static int fill(Tree *tree, Run *run) {
+    Entry *entries = run->count > MOST ? NULL : PyMem_Realloc(run->entries, run->count * sizeof *entries);
+    if (!entries) return -1;
+    run->entries = entries;
+    Tree other = *tree, made = {.entries = entries, .version = other.version + 1};
+    made.size = made.used = made.room = (uint32_t)run->count;
+    int error = reserve_slots(&made, made.size) || fill_parts(&made);
+    if (!error) *tree = made, *run = (Run){0};
+    else other = (Tree){.slots = made.slots, .parts = made.parts, .part_count = made.part_count};
+    drop_tree(other);
+    return error;
+}
+
+/* Builds a tree anew of which an eighth is left, if there is memory for it, and gives back its own. An empty one then
+ * has none. */
+static __attribute__((noinline)) void shrink(Tree *tree) {
+    Run run = {.entries = PyMem_Malloc(tree->size * sizeof *run.entries)};
+    uint32_t used = tree->used;
+    for (Place place = {0, 0, 0}; run.entries && run.count < tree->size;) run.entries[run.count++] = *next_entry(tree, &place);
+    tree->used = 0; /* the run has the references */
+    if (!tree->size) clear(tree);
+    else if (!run.entries || fill(tree, &run)) tree->used = used;
+    PyMem_Free(run.entries);
+}
+
+/* Puts an entry in, whose key is not there, where one was taken out, or else after all. Takes over its references. */
+static int add(Tree *tree, Entry entry) {
     Place place = place_of(tree, &entry);
-    if (reserve(tree, 1) || make_room(tree, &place)) return 0;
+    if (reserve(tree, 1) || make_room(tree, &place)) return -1;
     Part *part = &tree->parts[place.part];
     uint32_t *at = &part->indices[place.index];
     memmove(at + 1, at, (part->count++ - place.index) * sizeof *at);
@@ -373,7 +448,7 @@ static uint32_t add(Tree *tree, Entry entry) {
     fill_slot(tree->slots, tree->mask, tree->entries, index);
     tree->size++;
     tree->version++;
-    return index + 1;
+    return 0;
 }
 
 /* Takes out the entry at a place, with its references, and its part if that has no other. The next one that is added
@@ -390,61 +465,24 @@ static Entry take(Tree *tree, Place place) {
     }
     tree->entries[index] = (Entry){.vacant = tree->vacant};
     tree->vacant = index + 1;
-    tree->size--;
     tree->version++;
+    if (--tree->size <= tree->room / 8) shrink(tree);
     return entry;
 }
 
-/* Sets an entry. Gives back the value of before, or, if its key was not there, the number of what is now. */
+/* Sets an entry. Gives back the value of before, or, if its key was not there, the key in place of a value. */
 static int exchange(Tree *tree, Entry *entry) {
     Entry *there = lookup(tree, entry->key);
     if (there) return swap_values(there, entry), 0;
-    uint32_t number = add(tree, *entry);
-    if (!number) return -1;
-    *entry = (Entry){.vacant = number};
+    if (add(tree, *entry)) return -1;
+    *entry = (Entry){.value = entry->key};
     return 0;
 }
 
 /* Undoes this, for which no memory is needed. */
 static void change_back(Tree *tree, Entry *entry) {
     if (entry->key) swap_values(lookup(tree, entry->key), entry);
-    else *entry = take(tree, place_of(tree, &tree->entries[entry->vacant - 1]));
-}
-
-/* Gives up a tree that no table has any more. */
-static void drop_tree(Tree tree) {
-    Run run = {.entries = tree.entries, .count = tree.used};
-    while (tree.part_count) PyMem_Free(tree.parts[--tree.part_count].indices);
-    PyMem_Free(tree.parts);
-    PyMem_Free(tree.slots);
-    drop(&run);
-}
-
-/* Puts entries that are in order into parts. */
-static int fill_parts(Tree *tree) {
-    for (uint32_t index = 0; index < tree->size;) {
-        uint32_t left = tree->size - index, count = left < PART ? left : PART;
-        if (add_part(tree, tree->part_count, count - 1)) return -1;
-        Part *part = &tree->parts[tree->part_count - 1];
-        for (uint32_t at = 0; at < count; at++) part->indices[at] = index++;
-        part->count = (uint16_t)count;
-        part->bound = code_of(&tree->entries[index - 1]);
-    }
-    return 0;
-}
-
-/* Gives an empty tree the entries of a run, which are in order. */
-static int fill(Tree *tree, Run *run) {
-    Entry *entries = run->count > MOST ? NULL : PyMem_Realloc(run->entries, run->count * sizeof *entries);
-    if (!entries) return -1;
-    run->entries = entries;
-    Tree other = *tree, made = {.entries = entries, .version = other.version + 1};
-    made.size = made.used = made.room = (uint32_t)run->count;
-    int error = reserve_slots(&made, made.size) || fill_parts(&made);
-    if (!error) *tree = made, *run = (Run){0};
-    else other = (Tree){.slots = made.slots, .parts = made.parts, .part_count = made.part_count};
-    drop_tree(other);
-    return error;
+    else *entry = take(tree, place_of(tree, lookup(tree, entry->value)));
 }
 
 /* Sets all entries of a run, or none, with MemoryError. The run then has what is no longer needed. */
@@ -460,11 +498,9 @@ static int update(Tree *tree, Run *run) {
 
 /* ---- The class ---- */
 
-/* Takes all entries out, and then gives them up. */
 static int table_clear_all(PyObject *self) {
-    Tree *tree = &((Table *)self)->tree, before = *tree;
-    *tree = (Tree){.version = before.version + (before.size > 0)};
-    return drop_tree(before), 0;
+    clear(&((Table *)self)->tree);
+    return 0;
 }
 
 void table_dealloc(PyObject *self) {
@@ -503,7 +539,7 @@ static PyObject *table_subscript(PyObject *self, PyObject *key) {
 /* Puts an entry in, whose key is not there. */
 static int add_new(Tree *tree, PyObject *key, PyObject *value) {
     Entry entry = {Py_NewRef(key), {Py_NewRef(value)}, {.hash = hash_of(key)}};
-    if (add(tree, entry)) return 0;
+    if (!add(tree, entry)) return 0;
     Py_DecRef(value);
     Py_DecRef(key);
     return PyErr_NoMemory(), -1;
@@ -602,18 +638,26 @@ static PyObject *table_clear(PyObject *self, PyObject *Py_UNUSED(none)) {
     return Py_NewRef(Py_None);
 }
 
-/* A key that is a prefix of some octets is also one of the last key that is not after them. Octets that end within an
- * arc have their place in the order, too. */
+/* How many octets the arcs take that two keys begin with. */
+static size_t common_len(const const_oid_octets *left, const const_oid_octets *right) {
+    size_t common = 0, most = left->len < right->len ? left->len : right->len;
+    while (common + 8 <= most && word_of(&left->octets[common]) == word_of(&right->octets[common])) common += 8;
+    while (common < most && left->octets[common] == right->octets[common]) common++;
+    while (common && left->octets[common - 1] > 127) common--;
+    return common;
+}
+
+/* A key that is a prefix of another one is also a prefix of the last key that is not after that. */
 WITH_KEY(table_nearest) {
     READ("O:nearest", 1, "oid");
-    for (const_oid_octets above = *items_of(key); above.len;) {
-        const Entry *entry = entry_up_to(tree, find(tree, &above, encode(&above)));
-        if (!entry) break;
-        const const_oid_octets *last = items_of(entry->key);
-        size_t common = 0;
-        while (common < above.len && common < last->len && above.octets[common] == last->octets[common]) common++;
-        if (common == last->len) return pair_of_entry(entry);
-        above.len = common;
+    const Entry *entry = lookup(tree, key);
+    if (entry) return pair_of_entry(entry);
+    const_oid_octets above = *items_of(key);
+    Place place = find(tree, &above, encode(&above));
+    while ((entry = entry_up_to(tree, place))) {
+        above.len = common_len(&above, items_of(entry->key));
+        if (above.len == items_of(entry->key)->len) return pair_of_entry(entry);
+        place = find_up_to(tree, place, &above, encode(&above), 1);
     }
     return Py_NewRef(Py_None);
 }
@@ -630,8 +674,7 @@ WITH_KEY(table_next_after) {
 static int append_all(const Tree *tree, Place place, const const_oid_octets *start, Run *run) {
     int error = 0;
     for (const Entry *entry; !error && (entry = next_entry(tree, &place));) {
-        const const_oid_octets *items = items_of(entry->key);
-        if (start && (start->len > items->len || memcmp(start->octets, items->octets, start->len))) break;
+        if (start && !begins_with(entry, start)) break;
         error = append(NULL, run, entry->key, entry->value);
     }
     return error;
