@@ -1,6 +1,8 @@
 """const_oid.names and SortedMap, beside tables of tuples."""
+import collections
 import concurrent.futures
 import copy
+import ctypes
 import gc
 import importlib
 import inspect
@@ -134,6 +136,12 @@ MOST = [name for name in CALLS if name not in ("clear", "init")]
 STEP = [int]  # what is called where a value ends
 
 
+def shrunk(entries):
+    """A map that had 24 keys more, which were after these: of four entries, it is built anew when one goes."""
+    table = SortedMap([*entries, *((KEYS[7].child(arc), 0) for arc in range(24))])
+    return collections.deque((table.popitem() for _ in range(24)), 0) or table
+
+
 def readings(table):
     """The entries of a map by each way to read them."""
     walk = [table.next_after(key) for key in (ObjectIdentifier("0.0"), *table)]
@@ -195,7 +203,7 @@ def without_memory(call, make, are_all=False, tuples=2100):
         number += 1
 
 
-def outcome(calls, key=KEYS.__getitem__, new=int, garbage_at=0, kind=SortedMap):
+def outcome(calls, key=KEYS.__getitem__, new=int, garbage_at=0, kind=shrunk):
     """What numbered calls return, and the entries then. What ends within one makes the next."""
     table, found, left = kind((key(index), new(0)) for index in range(0, 8, 2)), {}, [*calls]
 
@@ -295,7 +303,7 @@ class Sorted(unittest.TestCase):
         again["all"] = lambda table, key, new: (table.clear(), table.update(zip(map(key, range(0, 8, 2)), "abcd")))
         orders = iter, reversed, lambda table: iter(table.items()), lambda table: reversed(table.values())
         for (name, change), order, count in itertools.product((CHANGES | again).items(), orders, range(6)):
-            table = SortedMap(dict.fromkeys(KEYS[::2]))
+            table = shrunk(zip(KEYS[::2], 4 * [None]))
             entries, before = order(table), list(table)
             self.assertEqual([*order(table)][:count], [*itertools.islice(entries, count)])
             self.assertEqual(max(4 - count, 0), operator.length_hint(entries))
@@ -321,7 +329,7 @@ class Sorted(unittest.TestCase):
             result_of(call, after := SortedMap(start), *given)
             after = [*after.items()]
             counts = [*map(sys.getrefcount, kept)]
-            for table, found in without_memory(lambda table: call(table, *given), lambda: SortedMap(start), are_all):
+            for table, found in without_memory(lambda table: call(table, *given), lambda: shrunk(start), are_all):
                 wanted = start if found in (MemoryError, SystemError) else after
                 self.assertEqual((len(wanted), wanted, False), (len(table), [*table.items()], other in table), call)
             table = found = wanted = None
@@ -448,6 +456,16 @@ class Sorted(unittest.TestCase):
         table = SortedMap({oid: 1, other: 2, KEYS[0]: 3})
         self.assertEqual((1, 2, None, 1), (table[oid], table.pop(other), table.get(other), table.pop(oid)))
 
+    def test_wrong_octets_stay_within_their_memory(self):
+        """They are of identifiers that are changed in place, which a map orders somewhere. Sanitizers see the rest."""
+        for octets in (b"", 300 * b"\x81", 150 * b"\x81\1", 15 * b"\1" + 300 * b"\xff"):
+            wrong, table = ObjectIdentifier.from_bytes(bytes(315)), SortedMap(zip(KEYS, KEYS))
+            ctypes.memmove(id(bytes(wrong)) + bytes.__basicsize__ - 1, octets, len(octets))
+            ctypes.c_size_t.from_address(id(wrong) + object.__basicsize__ + 8).value = len(octets)
+            table[wrong] = 1
+            found = table.nearest(wrong), table.next_after(wrong), table.subtree(wrong), table.pop(wrong)
+            self.assertEqual((1, KEYS), (found[3], [*table]))
+
 
 class Costs(unittest.TestCase):
     def test_its_size_is_that_of_its_memory(self):
@@ -455,7 +473,8 @@ class Costs(unittest.TestCase):
         orders = (51.5, keys), (52, keys[::-1]), (52, random.Random(SEED).sample(keys, 3000))  # the most octets a key
         tracemalloc.start()
         self.addCleanup(tracemalloc.stop)
-        for (most, order), left, at_once in itertools.product(orders, (3000, 300, 0), (0, 3000)):
+        kept = (3000, 3000), (300, 450), (0, 0)  # how many keys are left, and for how many there is memory
+        for (most, order), (left, held), at_once in itertools.product(orders, kept, (0, 3000)):
             before, table = tracemalloc.get_traced_memory()[0], SortedMap()
             table.update((key, None) for key in order[:at_once])
             for key in order[at_once:]:
@@ -464,7 +483,7 @@ class Costs(unittest.TestCase):
                 del table[key]
             size = tracemalloc.get_traced_memory()[0] - before
             self.assertAlmostEqual(size, sys.getsizeof(table), delta=200)
-            self.assertEqual((sorted(order[:left]), True), ([*table], size < 3000 * most))
+            self.assertEqual((sorted(order[:left]), True), ([*table], size < held * most + 200))
             del table
 
     def test_a_long_identifier_is_found_in_linear_time(self):
@@ -474,6 +493,27 @@ class Costs(unittest.TestCase):
         for given in (oid, long.child(1)):
             self.assertLess(seconds(lambda: self.assertEqual(1, table.nearest(given)[1])), 1)
             table[long.child(0)] = 3
+
+    def test_many_keys_have_few_parts(self):
+        """Each part of the order is a block of memory, and all may move where a key comes or goes."""
+        keys = [ObjectIdentifier.from_arcs((2, arc)) for arc in range(500_000)]
+        tracemalloc.start()
+        self.addCleanup(tracemalloc.stop)
+        table = SortedMap({keys[-1]: None})
+        table.update(dict.fromkeys(reversed(keys)))
+        self.assertLess(len(tracemalloc.take_snapshot().traces), 10_000)
+
+    def test_a_prefix_is_found_in_less_time_than_by_lookups(self):
+        """Of a key itself, and of a long identifier whose parents all have a child that is a key."""
+        ups = [ObjectIdentifier.from_bytes(4096 * b"\1")]
+        while up := ups[-1].parent:
+            ups.append(up)
+        table = SortedMap((up.child(0), 0) for up in ups[1:])
+        calls = [(ups[:1], lambda: [up.parent in table for up in ups[:-1]])]
+        calls.append(([*table], lambda: [*map(table.next_after, table)]))
+        for keys, lookups in calls:
+            rounds = (2 * seconds(lambda: [*map(table.nearest, keys)]) < seconds(lookups) for _ in range(5))
+            self.assertTrue(any(rounds))
 
     def test_all_entries_take_about_the_time_of_making_the_map(self):
         draw = random.Random(SEED)

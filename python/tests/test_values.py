@@ -8,10 +8,14 @@ import csv
 import ctypes
 import importlib
 import itertools
+import mmap
 import operator
 import pickle
 import random
+import subprocess
 import sys
+import tempfile
+import threading
 import time
 import timeit
 import unittest
@@ -192,6 +196,40 @@ class Identifiers(unittest.TestCase):
                 kind = memoryview if getattr(given, "ndim", 2) == 1 else bytes
                 self.assertEqual((OID, rest, kind), (oid, bytes(found), type(found)))
             self.assertIs(source, OID.read_der(view)[1].obj)
+
+    def test_others_write_to_a_buffer_meanwhile(self):
+        """A process, and a thread without the lock: an identifier has valid octets, and an error has wrong ones."""
+        der, ended = b"\6\x64*" + 99 * b"\3", []
+        file = self.enterContext(tempfile.TemporaryFile(buffering=0))
+        noise = self.enterContext(open("/dev/urandom", "rb", buffering=0))
+        file.write(der)
+        code = f"import mmap\nmemory = mmap.mmap({file.fileno()}, 0)\nwhile True: memory[50] = 128; memory[50] = 3"
+        other = subprocess.Popen([sys.executable, "-c", code], pass_fds=[file.fileno()])
+        self.addCleanup(other.wait)
+        self.addCleanup(other.kill)
+        shared, own = memoryview(mmap.mmap(file.fileno(), 0)), memoryview(bytearray(100_000) + der)
+
+        def write():
+            while not ended:
+                own[-len(der) :] = der
+                noise.readinto(own)
+
+        self.addCleanup(sys.setswitchinterval, sys.getswitchinterval())
+        sys.setswitchinterval(1e-5)
+        thread = threading.Thread(target=write)
+        self.addCleanup(thread.join)
+        self.addCleanup(ended.append, True)
+        thread.start()
+        for view in (shared, own[-len(der) :]):
+            found, end = {type(None): set(), OidError: set()}, time.monotonic() + 1
+            while time.monotonic() < end or not all(found.values()):
+                for call in (from_der, lambda view: OID.read_der(view)[0]):
+                    try:
+                        found[type(None)].add(call(view).der)
+                    except OidError as error:
+                        found[OidError].add(error.given)
+            for kind, given in found.items():
+                self.assertEqual({kind}, {type(error_of(from_der, octets)) for octets in given})
 
     def test_an_error_keeps_octets_of_the_element(self):
         """It has at most 128, and no buffer of the caller, and says the same of a view and of bytes."""
