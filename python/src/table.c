@@ -427,8 +427,9 @@ static int fill(Tree *tree, Run *run) {
  * has none. */
 static __attribute__((noinline)) void shrink(Tree *tree) {
     Run run = {.entries = PyMem_Malloc(tree->size * sizeof *run.entries)};
+    Place place = {0, 0, 0};
     uint32_t used = tree->used;
-    for (Place place = {0, 0, 0}; run.entries && run.count < tree->size;) run.entries[run.count++] = *next_entry(tree, &place);
+    while (run.entries && run.count < tree->size) run.entries[run.count++] = *next_entry(tree, &place);
     tree->used = 0; /* the run has the references */
     if (!tree->size) clear(tree);
     else if (!run.entries || fill(tree, &run)) tree->used = used;

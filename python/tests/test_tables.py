@@ -461,7 +461,7 @@ class Sorted(unittest.TestCase):
         for octets in (b"", 300 * b"\x81", 150 * b"\x81\1", 15 * b"\1" + 300 * b"\xff"):
             wrong, table = ObjectIdentifier.from_bytes(bytes(315)), SortedMap(zip(KEYS, KEYS))
             ctypes.memmove(id(bytes(wrong)) + bytes.__basicsize__ - 1, octets, len(octets))
-            ctypes.c_size_t.from_address(id(wrong) + object.__basicsize__ + 8).value = len(octets)
+            ctypes.c_size_t.from_address(id(wrong) + object.__basicsize__ * 3 // 2).value = len(octets)
             table[wrong] = 1
             found = table.nearest(wrong), table.next_after(wrong), table.subtree(wrong), table.pop(wrong)
             self.assertEqual((1, KEYS), (found[3], [*table]))

@@ -19,8 +19,9 @@
  * - Arcs. C cuts a wider number to the 32 bits of an arc, without an error: 4294967299 is given as 3, and -1 as
  *   4294967295. gcc and clang warn of it by -Wconversion, and not by -Wall -Wextra. So of an unsigned long, as in
  *   net-snmp, test `arc <= UINT32_MAX` first, or give its text to const_oid_from_text.
- * - Threads. Every function is thread-safe. While a call runs, no other thread may write its inputs or touch its
- *   output.
+ * - Threads. Every function is thread-safe. While a call runs, nothing else, such as another thread or process, may
+ *   write its inputs or touch its output. If others may write octets between the call that checks them and a later one
+ *   that reads them, both must be given a copy of the caller's own.
  * - Machines. The tests run on Linux with glibc on x86-64. The repository's rust/README.md says what passed on other
  *   machines, by qemu and wine, and when. The proofs are for 64 bits. What Rattle builds needs x86-64-v2 (POPCNT,
  *   SSE4.1). The library needs no system: of the C library it calls memory functions, and cargo's build also abort.
