@@ -71,6 +71,7 @@ CALLS = {
 
 # What this package has no call for: the other orders, whether a list is sorted, names, and outputs of a length.
 LEFT_OUT = set("items_order owned owned_order borrowed borrowed_order sorted names text_in arcs_in".split())
+LEFT_OUT |= set("entry parse parse_bytes display nearest".split())
 
 
 def answer(call, words):

@@ -192,6 +192,17 @@ static void order_row(comparison *compared_by) {
 
 #define IS(name) (strcmp(call, name) == 0)
 
+/* Whether a row asks tables of names that are not here. A compiler that includes const_oid_common_names.h before all of
+ * this has those of the header. */
+static int is_left(const char *call) {
+    if (IS("names") || IS("entry") || IS("nearest")) return 1;
+#ifdef CONST_OID_COMMON_NAMES_H
+    return 0;
+#else
+    return IS("parse") || IS("parse_bytes") || IS("display");
+#endif
+}
+
 static void answer(const char *call, const char *rest) {
     const char *second = rest + strcspn(rest, " ");
     second += *second == ' ';
@@ -218,6 +229,10 @@ static void answer(const char *call, const char *rest) {
     else if (IS("owned_order")) order_row(const_oid_cmp_owned);
     else if (IS("borrowed_order")) order_row(const_oid_cmp);
     else if (IS("by_arcs_order")) order_row(const_oid_cmp_arcs);
+#ifdef CONST_OID_COMMON_NAMES_H
+    else if (IS("parse")) say_octets(const_oid_parse(second, strlen(second), out, numbers[0]), out);
+    else if (IS("display")) say_text(const_oid_display(OCTETS(0), text, sizeof text));
+#endif
     else say("no such call");
 }
 
@@ -233,20 +248,20 @@ int main(void) {
         char *wanted = strstr(row, " = ");
         if (row[0] == '#' || wanted == NULL) continue;
         rows++;
-        /* In C, a generator makes tables of names. */
-        if (strncmp(row, "names ", 6) == 0) continue;
         *wanted = 0;
         wanted += 3;
         /* The library does not say how long an element of wrong octets is. */
         if (strstr(wanted, " bytes, error") != NULL) wanted = strstr(wanted, "error");
         char *rest = row + strcspn(row, " ");
         if (*rest == ' ') *rest++ = 0;
+        if (is_left(row)) continue;
         said_len = 0;
         read_words(rest);
         answer(row, rest);
         if (said_len == strlen(wanted) && memcmp(said, wanted, said_len) == 0) continue;
         /* In a short output too, the library looks for an error in the whole text: these end with one. */
-        int ends_wrong = strcmp(row, "text_in") == 0 && strchr(".x", rest[strlen(rest) - 1]) != NULL;
+        int is_text = strcmp(row, "text_in") == 0 || strcmp(row, "parse") == 0;
+        int ends_wrong = is_text && strchr(".x", rest[strlen(rest) - 1]) != NULL;
         if (ends_wrong && strstr(wanted, "length") && strncmp(said, "error", 5) == 0) continue;
         wrong++;
         printf("line %zu: %s, and not %.*s\n", line, read, (int)said_len, said);

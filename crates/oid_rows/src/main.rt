@@ -1,11 +1,14 @@
 //! Answers the rows of standard input, `call input = result`, by the calls of `const_oid`. It prints each row that has
-//! another result, or none, with its result, and then how many rows there are.
+//! another result, or none, with its result, and then how many rows there are. Rows `entry` are those of the tables of
+//! names that other rows ask.
 #![tactic(auto)]
 
 mod identifiers;
 mod relations;
+mod typed;
 
 use anyhow::{Context, Result};
+use const_oid::tables::Tables;
 use const_oid::{Arc, ObjectIdentifierRef};
 use std::alloc::Global;
 use std::io::{BufRead, BufReader};
@@ -51,7 +54,13 @@ fn items(alloc: Global, input: &str) -> Result<Vec<Vec<u8>>> {
 }
 
 /// The result of a row that begins with octets.
-fn of_octets(alloc: Global, call: &str, octets: &[u8], rest: &str) -> Result<String> {
+fn of_octets(
+    alloc: Global,
+    tables: Tables<'_>,
+    call: &str,
+    octets: &[u8],
+    rest: &str,
+) -> Result<String> {
     match call {
         "octets" => identifiers::octets(alloc, octets),
         "element" => identifiers::element(alloc, octets),
@@ -64,6 +73,7 @@ fn of_octets(alloc: Global, call: &str, octets: &[u8], rest: &str) -> Result<Str
         "child" => relations::child(alloc, octets, rest.parse()?),
         "list" => relations::list(alloc, octets, &items(alloc, rest)?),
         "names" => relations::names(alloc, octets, &words(alloc, rest)?),
+        "display" => typed::display(alloc, tables, octets),
         _ => {
             let word = relations::pair(call, octets, &hex::decode(alloc, rest.as_bytes())?)?;
             Ok(String::from_str(alloc, word)?)
@@ -72,7 +82,7 @@ fn of_octets(alloc: Global, call: &str, octets: &[u8], rest: &str) -> Result<Str
 }
 
 /// The result of a row of one identifier or of a list.
-fn of_one(alloc: Global, call: &str, input: &str) -> Result<String> {
+fn of_one(alloc: Global, tables: Tables<'_>, call: &str, input: &str) -> Result<String> {
     let (first, rest) = input.split_once(' ').unwrap_or((input, ""));
     match call {
         "text" => identifiers::text(alloc, input),
@@ -84,12 +94,24 @@ fn of_one(alloc: Global, call: &str, input: &str) -> Result<String> {
         "arcs" => identifiers::arcs(alloc, &arcs(alloc, input)?),
         "arcs_in" => identifiers::arcs_in(alloc, first.parse()?, &arcs(alloc, rest)?),
         "sorted" => relations::sorted(alloc, &items(alloc, input)?),
-        _ => of_octets(alloc, call, &hex::decode(alloc, first.as_bytes())?, rest),
+        "entry" => {
+            let (octets, name) = rest.split_once(' ').context("no name")?;
+            typed::names(alloc, tables, octets, name)
+        }
+        "parse" => typed::parse(alloc, tables, first.parse()?, rest),
+        "parse_bytes" => typed::parse_bytes(alloc, tables, first.parse()?, rest),
+        _ => of_octets(
+            alloc,
+            tables,
+            call,
+            &hex::decode(alloc, first.as_bytes())?,
+            rest,
+        ),
     }
 }
 
 /// The result of a row. What the library for C alone has, an order or an error, is left to it, as `None`.
-fn answer(alloc: Global, call: &str, input: &str) -> Result<Option<String>> {
+fn answer(alloc: Global, tables: Tables<'_>, call: &str, input: &str) -> Result<Option<String>> {
     match (call, call.strip_suffix("_order")) {
         ("items_order", _) => Ok(None),
         ("error", _) => identifiers::error(alloc, &arcs(alloc, input)?),
@@ -97,17 +119,15 @@ fn answer(alloc: Global, call: &str, input: &str) -> Result<Option<String>> {
             let word = relations::in_order(call, &items(alloc, input)?)?;
             Ok(Some(String::from_str(alloc, word)?))
         }
-        _ => Ok(Some(of_one(alloc, call, input)?)),
+        _ => Ok(Some(of_one(alloc, tables, call, input)?)),
     }
 }
 
 /// A row's result, if the row has none or another one.
-fn said(alloc: Global, row: &str) -> Result<Option<String>> {
-    let row = expanded(alloc, row)?;
-    let row = row.as_str();
+fn said(alloc: Global, tables: Tables<'_>, row: &str) -> Result<Option<String>> {
     let (question, expected) = row.split_once(" = ").unwrap_or((row, ""));
     let (call, input) = question.split_once(' ').unwrap_or((question, ""));
-    let said = match answer(alloc, call, input) {
+    let said = match answer(alloc, tables, call, input) {
         Ok(said) => said,
         Err(error) => Some(format!(in alloc; "error: {error}")?),
     };
@@ -115,17 +135,24 @@ fn said(alloc: Global, row: &str) -> Result<Option<String>> {
 }
 
 fn main(rt: HostRuntime) -> Result<()> {
-    let mut rows = 0usize;
+    let mut rows = Vec::new(rt.alloc());
     for row in BufReader::new(rt.alloc(), rt.reader())?.lines(rt.alloc()) {
         let row = row?;
-        if row.as_str().starts_with('#') {
-            continue;
+        if !row.as_str().starts_with('#') {
+            rows.push(expanded(rt.alloc(), row.as_str())?)?;
         }
-        rows = rows.saturating_add(1);
-        if let Some(said) = said(rt.alloc(), row.as_str())? {
+    }
+    let first = typed::entries(rt.alloc(), &rows, "entry 1 ")?;
+    let second = typed::entries(rt.alloc(), &rows, "entry 2 ")?;
+    let first = typed::lent(rt.alloc(), &first)?;
+    let second = typed::lent(rt.alloc(), &second)?;
+    let mut memory = Vec::new(rt.alloc());
+    let tables = typed::indexed(rt.alloc(), &first, &second, &mut memory)?;
+    for row in &rows {
+        if let Some(said) = said(rt.alloc(), Tables(&tables), row)? {
             println!(rt; "{row} = {said}")?;
         }
     }
-    println!(rt; "{rows} rows")?;
+    println!(rt; "{} rows", rows.len())?;
     Ok(())
 }
