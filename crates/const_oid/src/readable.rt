@@ -8,7 +8,7 @@ use crate::links::Entry;
 use crate::tables::Tables;
 use crate::typed::{MAX_NAME_BYTES, bare, begins_with_digit};
 
-impl<'a> Tables<'a> {
+impl Tables<'_> {
     /// Whether each name is parsed as itself, alone and before arcs: then what these tables display of an identifier is
     /// parsed as this identifier.
     ///

@@ -20,6 +20,8 @@ mod order;
 #[cfg(test)]
 mod printing;
 #[cfg(test)]
+mod readable;
+#[cfg(test)]
 mod sorted_database;
 #[cfg(test)]
 mod traits;

@@ -47,6 +47,7 @@ pub const CRATES: &[Crate] = &[
                 "they are of a feature";
             "lib": "pub(crate) mod links;" => "#[cfg(feature = \"db\")] pub(crate) mod links;", "as above";
             "lib": "pub mod tables;" => "#[cfg(feature = \"db\")] pub mod tables;", "as above";
+            "lib": "mod readable;" => "#[cfg(feature = \"db\")] mod readable;", "as above";
             "lib": "mod encoder;" => "pub(crate) mod encoder;", FOR_C;
             "lib": "mod text;" => "pub(crate) mod text;", FOR_C;
             "oid_ref": "#[derive(Copy, Clone, Eq, Hash)] pub struct ObjectIdentifierRef<'a> { pub ber: &'a [u8], }"
