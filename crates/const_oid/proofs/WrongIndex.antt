@@ -49,7 +49,7 @@ module _ (capacity : ℕ) where
       ≡ component_fault root_rule (size (before ++ number_of component ∷ [])) before component after
   component_else before component after other = grind (arith, arc_else before (number_of component))
 
-  index_from_found : (before : List ℕ) (components : List (List ℕ)) {fault : Error} {index : ℕ} → fault ≢ Length
+  pub index_from_found : (before : List ℕ) (components : List (List ℕ)) {fault : Error} {index : ℕ} → fault ≢ Length
       → components_found capacity before components ≡ Err (fault, index) → index ≡ wrong_index before components
   index_from_found [] [] other found = grind (arith)
   index_from_found (arc ∷ []) [] other found = grind (arith)

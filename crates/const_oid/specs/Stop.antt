@@ -1,11 +1,11 @@
 -- What is wrong with a text, by where its reading stops.
-use Rattle.std.specs.Prelude.{◌≡◌, ◌≢◌, ℕ, ◌==◌, ◌&&◌, not, List, [], length, count_by, drop, get_or, min, take, nat_lt, if◌then◌else◌, Err}
+use Rattle.std.specs.Prelude.{◌≡◌, ◌≢◌, ℕ, ◌+◌, ◌-◌, ◌++◌, ◌==◌, ◌&&◌, not, List, [], length, count_by, drop, get_or, min, take, nat_lt, if◌then◌else◌, Err}
 use Rattle.std.specs.{Char.is_ascii_digit, Option.option_map_or}
 use Rattle.const_oid.specs.declared.error.Error.{Error}
 use Rattle.const_oid.specs.declared.error.Error.TheVariants.{ArcTooBig, DigitExpected, Empty, Length, RepeatedDot, TrailingDot}
 use Rattle.const_oid.specs.declared.outputs.Stop.{Stop}
 use Rattle.const_oid.specs.Identifier.{root_rule}
-use Rattle.const_oid.specs.Text.{components_of, dot, text_answer, wrong_index}
+use Rattle.const_oid.specs.Text.{components_of, dot, text_answer, text_of, wrong_index}
 
 -- the fault of an arc, by the bytes after its component: `TrailingDot` if an empty last one follows
 abbrev pub or_trailing : Error → List ℕ → Error
@@ -33,3 +33,9 @@ component_at text place = count_by (λ b. nat_lt b 48) (take place text)
 abbrev pub IsWrongAt : ℕ → List ℕ → Stop → Type 0
 IsWrongAt capacity text stop = (text_answer root_rule text capacity ≡ Err (error_at text stop))
     × (error_at text stop ≢ Length → component_at text stop.1 ≡ wrong_index [] (components_of text))
+
+-- the same of the text of arcs and another text after it, whose first component is the last arc
+abbrev pub IsWrongBelow : ℕ → List ℕ → List ℕ → Stop → Type 0
+IsWrongBelow capacity arcs text stop = let whole = text_of arcs ++ text in
+    (text_answer root_rule whole capacity ≡ Err (error_at text stop))
+    × (error_at text stop ≢ Length → component_at text stop.1 + (length arcs - 1) ≡ wrong_index [] (components_of whole))

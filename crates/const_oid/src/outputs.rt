@@ -1,15 +1,15 @@
 //! Octets and identifiers in outputs of the caller.
 
-ghost use Rattle.std.specs.Prelude.{◌≡◌, ◌≢◌, ◌*◌, ◌<◌, ◌≤◌, ℕ, List, drop, length, min, Err, IfErr, IfOk, IfSome, MatchOption, MatchResult, None, Ok};
+ghost use Rattle.std.specs.Prelude.{◌≡◌, ◌≢◌, ◌*◌, ◌<◌, ◌≤◌, ℕ, List, drop, length, min, Err, IfErr, IfOk, IfSome, MatchOption, MatchResult, None, Ok, ◌++◌};
 ghost use Rattle.std.specs.Result.{result_err};
 ghost use Rattle.const_oid.specs.Contents.{arcs_of_octets, borrowed_capacity, octet_fault, size_answer};
 ghost use Rattle.const_oid.specs.Identifier.{root_rule, default_capacity};
 ghost use Rattle.const_oid.specs.Items.{item_answer};
-ghost use Rattle.const_oid.specs.OidRef.{ref_arcs, ref_slice};
-ghost use Rattle.const_oid.specs.Output.{IsEncodedIn, Writes, WritesAll, WritesEncoding};
+ghost use Rattle.const_oid.specs.OidRef.{ref_arcs, ref_slice, ref_octets};
+ghost use Rattle.const_oid.specs.Output.{IsEncodedIn, Writes, WritesAll, WritesEncoding, written_over};
 ghost use Rattle.const_oid.specs.Private.Parser.{error_of, place_of, NeedsNoStart};
-ghost use Rattle.const_oid.specs.Stop.{component_at, error_at, IsWrongAt};
-ghost use Rattle.const_oid.specs.Text.{text_answer};
+ghost use Rattle.const_oid.specs.Stop.{component_at, error_at, IsWrongAt, IsWrongBelow};
+ghost use Rattle.const_oid.specs.Text.{text_answer, text_of, FollowsArc};
 ghost use Rattle.const_oid.specs.Tree.{BeginsWith};
 ghost use Rattle.const_oid.specs.Typed.{dotted};
 
@@ -21,6 +21,7 @@ use crate::error::{Error, Result};
 use crate::oid_ref::ObjectIdentifierRef;
 use crate::parser::{
     ONE_PASS_BYTES, Wrong, component_at, fault_of, parse, parse_in_one_pass, parse_inlined,
+    parse_later,
 };
 use crate::root::{MAX_FIRST, split_root};
 use crate::text::{text_len, write_dotted};
@@ -182,6 +183,46 @@ pub fn parse_or_stop(text: &[u8], out: &mut [u8], capacity: usize) -> result::Re
     match parse_inlined(text, out, capacity) {
         Ok(len) => Ok(len),
         Err(wrong) => Err(stop_of(wrong)),
+    }
+}
+
+/// Counts and writes the contents octets of the arcs of an identifier, and then of those of a text in ASCII, each after
+/// a dot, as [`parse_or_stop`] does. The identifier's own octets fit the capacity.
+///
+/// # Errors
+///
+/// Those of [`parse_or_stop`]. The text's first component is the last arc of the identifier.
+#[inline(never)]
+pub fn parse_below_or_stop(
+    above: ObjectIdentifierRef<'_>,
+    text: &[u8],
+    out: &mut [u8],
+    capacity: usize,
+) -> result::Result<usize, Stop>
+    requires follows { FollowsArc text.now }
+    requires fits { length (ref_octets above) ≤ capacity }
+    ensures answer { MatchResult result
+        (IsEncodedIn capacity (text_answer root_rule (text_of (ref_arcs above.entry) ++ text.now) capacity) out.old out.new)
+        (IsWrongBelow capacity (ref_arcs above.entry) text.now) }
+    ensures kept { length out.old < capacity → out.new ≡ out.old }
+    ensures grows { IfOk result (λ len. length (ref_octets above.entry) ≤ len) }
+{
+    let octets = above.as_bytes();
+    copy_if_room(octets, out, capacity);
+    match parse_later(text, 0, out, octets.len(), capacity) {
+        Ok(len) => Ok(len),
+        Err(wrong) => Err(stop_of(wrong)),
+    }
+}
+
+/// Copies octets to the start of an output that has room for a capacity.
+fn copy_if_room(octets: &[u8], out: &mut [u8], capacity: usize)
+    requires { length octets.now ≤ capacity }
+    ensures copied { capacity ≤ length out.old → out.new ≡ written_over octets.now out.old }
+    ensures kept { length out.old < capacity → out.new ≡ out.old }
+{
+    if out.len() >= capacity {
+        out[..octets.len()].copy_from_slice(octets);
     }
 }
 

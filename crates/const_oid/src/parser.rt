@@ -3,7 +3,7 @@
 //! A text is read component by component. If one is wrong, only an index is returned, and a function that is rarely
 //! called makes the error of it. So a valid text costs fewer instructions.
 
-ghost use Rattle.std.specs.Prelude.{◌≡◌, ◌≢◌, ◌<◌, ◌≤◌, ℕ, List, ◌++◌, drop, length, Err, IfErr, MatchOption, MatchResult};
+ghost use Rattle.std.specs.Prelude.{◌≡◌, ◌≢◌, ◌<◌, ◌≤◌, ℕ, List, ◌++◌, drop, length, Err, IfErr, IfOk, MatchOption, MatchResult};
 ghost use Rattle.const_oid.specs.Output.{IsEncodedIn, WritesEncoding};
 ghost use Rattle.const_oid.specs.Private.Parser.{error_of, place_of, HasFault, IsFaultAt, IsFoundAfter, IsFoundAt, IsComponent, IsRoot, IsWrittenTo, NeedsNoStart};
 ghost use Rattle.const_oid.specs.Contents.{arcs_of_octets};
@@ -133,6 +133,7 @@ pub(crate) fn parse_later(
         → MatchResult result (IsEncodedIn capacity (text_answer root_rule (front ++ text.now) capacity) old out.new)
         (λ wrong. IsFoundAfter capacity front offset text.now (error_of text.now wrong) (place_of wrong) × NeedsNoStart text.now wrong) }
     ensures kept { length out.old < capacity → out.new ≡ out.old }
+    ensures grows { IfOk result (λ len. used ≤ len) }
 {
     while end + 1 < text.len() {
         let start = end + 1;

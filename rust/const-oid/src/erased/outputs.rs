@@ -8,7 +8,9 @@ use crate::erased::buffer::DEFAULT_CAPACITY;
 use crate::erased::encoder::{ONE_PASS_ARCS, encode, encode_in_one_pass};
 use crate::erased::error::{Error, Result};
 use crate::erased::oid_ref::ObjectIdentifierRef;
-use crate::erased::parser::{ONE_PASS_BYTES, Wrong, component_at, fault_of, parse, parse_in_one_pass, parse_inlined};
+use crate::erased::parser::{
+    ONE_PASS_BYTES, Wrong, component_at, fault_of, parse, parse_in_one_pass, parse_inlined, parse_later,
+};
 use crate::erased::root::{MAX_FIRST, split_root};
 use crate::erased::text::{text_len, write_dotted};
 use core::result;
@@ -131,6 +133,35 @@ pub fn parse_or_stop(text: &[u8], out: &mut [u8], capacity: usize) -> result::Re
     match parse_inlined(text, out, capacity) {
         Ok(len) => Ok(len),
         Err(wrong) => Err(stop_of(wrong)),
+    }
+}
+
+/// Counts and writes the contents octets of the arcs of an identifier, and then of those of a text in ASCII, each after
+/// a dot, as [`parse_or_stop`] does. The identifier's own octets fit the capacity.
+///
+/// # Errors
+///
+/// Those of [`parse_or_stop`]. The text's first component is the last arc of the identifier.
+#[inline(never)]
+#[must_use]
+pub fn parse_below_or_stop(
+    above: &ObjectIdentifierRef,
+    text: &[u8],
+    out: &mut [u8],
+    capacity: usize,
+) -> result::Result<usize, Stop> {
+    let octets = above.as_bytes();
+    copy_if_room(octets, out, capacity);
+    match parse_later(text, 0, out, octets.len(), capacity) {
+        Ok(len) => Ok(len),
+        Err(wrong) => Err(stop_of(wrong)),
+    }
+}
+
+/// Copies octets to the start of an output that has room for a capacity.
+fn copy_if_room(octets: &[u8], out: &mut [u8], capacity: usize) {
+    if out.len() >= capacity {
+        out[..octets.len()].copy_from_slice(octets);
     }
 }
 

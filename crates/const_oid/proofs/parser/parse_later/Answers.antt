@@ -24,6 +24,7 @@ loop-end-preserved c = record {
       later_written c.args.capacity front offset c.args.text.now old c.append_group.new.out written c.append_group.auto.out (omega arith)
       c.in-Ok.ensures (Ok c.in-Ok-append_group.used) c.in-Ok-append_group.ensures.appends;
   within = c.in-Ok.ensures.at.within;
+  grows = omega (arith, c.loop-end.invariant.grows, c.in-Ok-append_group.ensures.appends.0);
   kept = λ short. c.in-Ok-append_group.ensures.kept (omega (arith, c.loop-end.auto.out)) ∙ c.loop-end.invariant.kept short;
 }
 

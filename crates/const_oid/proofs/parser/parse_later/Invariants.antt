@@ -7,6 +7,7 @@ invariant-loop-end l = record {
   written : (front old : List ℕ) (offset : ℕ) → IsWrittenTo l.capacity front offset l.text old l.fn.out l.fn.used l.fn.end
       → IsWrittenTo l.capacity front offset l.text old l.out l.used l.end;
   within : l.end ≤ length l.text;
+  grows : l.fn.used ≤ l.used;
   kept : length l.fn.out < l.capacity → l.out ≡ l.fn.out;
 }
 
