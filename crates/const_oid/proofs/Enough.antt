@@ -43,7 +43,7 @@ module _ (rule : RootRule) (capacity : ℕ) where
       → component_fault rule capacity before component after ≢ Some Length
   component_enough before component after fits = grind (arith, nat_tests, arc_enough before (number_of component) (map number_of after))
 
-  components_enough : (before : List ℕ) (components : List (List ℕ)) → size (before ++ map number_of components) ≤ capacity
+  pub components_enough : (before : List ℕ) (components : List (List ℕ)) → size (before ++ map number_of components) ≤ capacity
       → components_fault rule capacity before components ≢ Some Length
   components_enough before [] fits = grind (arith, nat_tests)
   components_enough before (component ∷ after) fits =
@@ -130,7 +130,7 @@ root_components first second =
     omega (arith, (width_is n).least (suc k) (omega arith) (omega arith))
 
 -- the bytes of components, and a dot after each
-abbrev bytes_of : List (List ℕ) → ℕ
+abbrev pub bytes_of : List (List ℕ) → ℕ
 bytes_of [] = 0
 bytes_of (component ∷ components) = 1 + length component + bytes_of components
 
@@ -138,12 +138,12 @@ bytes_of-onto_first : (b : ℕ) (components : List (List ℕ)) → 0 < length co
 bytes_of-onto_first b [] some = absurd (omega arith)
 bytes_of-onto_first b (component ∷ components) some = omega arith
 
-bytes_of-components : (text : List ℕ) → bytes_of (components_of text) ≡ 1 + length text
+pub bytes_of-components : (text : List ℕ) → bytes_of (components_of text) ≡ 1 + length text
 bytes_of-components [] = refl
 bytes_of-components (b ∷ bs) =
     grind (arith, nat_tests, bytes_of-components bs, length-slice_split (λ b. b == 46) bs, bytes_of-onto_first b (components_of bs))
 
-widths_components : (components : List (List ℕ)) → sum_by width (map number_of components) ≤ bytes_of components
+pub widths_components : (components : List (List ℕ)) → sum_by width (map number_of components) ≤ bytes_of components
 widths_components [] = omega arith
 widths_components (component ∷ components) =
     omega (arith, sum_by-cons width (number_of component) (map number_of components), width_component component, widths_components components)

@@ -1,18 +1,20 @@
 -- What is found of the text of an identifier and of what follows it.
-use Rattle.std.proofs.Common.{◌≡◌, ℕ, ◌+◌, ◌-◌, ◌*◌, ◌<◌, ◌≤◌, false, true, List, [], ◌∷◌, ◌++◌, length, take, decimal, refl, ap, sym, ◌∙◌, arith}
-use Rattle.std.proofs.Common.{lt-ltb, le-ltb, nat_lt, if◌then◌else◌, Err, append-nil, append_assoc, length-append, subst, ⊎_elim}
+use Rattle.std.proofs.Common.{◌≡◌, ◌≢◌, ℕ, ◌+◌, ◌-◌, ◌*◌, ◌<◌, ◌≤◌, false, true, List, [], ◌∷◌, ◌++◌, length, take, decimal, refl, ap, sym, ◌∙◌, arith}
+use Rattle.std.proofs.Common.{lt-ltb, le-ltb, nat_lt, if◌then◌else◌, Err, append-nil, append_assoc, length-append, map, sum_by, subst, ⊎_elim}
+use Rattle.std.specs.Prelude.{Option, None, Some}
 use Rattle.std.specs.List.{AllZip, concat}
-use Rattle.std.proofs.lemmas.{Bool.cases_lt, Bool.Decides.nat_tests, List.length-take-le, Slice.Zip.AllZip-long}
+use Rattle.std.proofs.lemmas.{Bool.cases_lt, Bool.Decides.nat_tests, List.{length-take-le, Sums.sum_by-append}, Slice.Zip.AllZip-long}
 use Rattle.const_oid.specs.declared.error.Error.{Error}
 use Rattle.const_oid.specs.declared.error.Error.TheVariants.{ArcInvalid, Length}
-use Rattle.const_oid.specs.{Base128.{IsGroup}, Contents.{arcs_of_octets, cut}, Error.fault_if, Items.arc_fault}
+use Rattle.const_oid.specs.{Base128.{width, IsGroup}, Contents.{arcs_of_octets, cut}, Error.{answer, fault_if}, Items.arc_fault}
 use Rattle.const_oid.specs.Identifier.{root_rule, max_arc, max_second, size, subidentifiers, IsEncoding, IsIdentifier}
 use Rattle.const_oid.specs.{Stop.or_trailing, Output.written_over, Private.Parser.{arc_found, components_found, found_after, text_found, IsWrittenTo}}
-use Rattle.const_oid.specs.Text.{components_of, dot, text_answer, text_of, FollowsArc}
-use Rattle.const_oid.proofs.{Components.number_read, Faults.{none_from_below, some_from_above}, Lengths.{length-groups, length_is_size, size_prefix}}
+use Rattle.const_oid.specs.Text.{components_fault, components_of, dot, number_of, text_answer, text_of, FollowsArc}
+use Rattle.const_oid.proofs.{Components.number_read, Faults.{none_from_below, some_from_above}, Lengths.{length-groups, length_is_size, size-cons, size_prefix}}
+use Rattle.const_oid.proofs.{Enough.{bytes_of-components, components_enough, widths_components}, Items.few_none}
 use Rattle.const_oid.proofs.{Cutting.concat-cut, Encodings.cut_encoding, Parents.IsWithoutLast}
 use Rattle.const_oid.proofs.{Lists.{all_at, append-cons}, Numbers.{decimal_is, number_of-decimal}}
-use Rattle.const_oid.proofs.{Texts.{arcs_small, text_left, text_left-cons}, WrongIndex.answer_from_found}
+use Rattle.const_oid.proofs.{Texts.{arcs_small, text_left, text_left-cons}, WrongIndex.{answer_from_found, same_answer, same_text, without_index}}
 
 left_follows : (arcs rest : List ℕ) → FollowsArc rest → FollowsArc (text_left false arcs ++ rest)
 left_follows [] rest follows = follows
@@ -26,6 +28,11 @@ size_to [] arc rest some = absurd (omega arith)
 size_to (first ∷ []) arc rest some = size_prefix first arc [] rest
 size_to (first ∷ second ∷ later) arc rest some =
     rw (append-cons later arc rest) at (size_prefix first second (later ++ arc ∷ []) rest)
+
+size_more : (arcs more : List ℕ) → IsIdentifier root_rule arcs → size (arcs ++ more) ≡ size arcs + sum_by width more
+size_more [] more identifier = absurd identifier
+size_more (first ∷ []) more identifier = absurd identifier
+size_more (first ∷ second ∷ later) more identifier = grind (arith, size-cons, sum_by-append)
 
 zip_begin : (numbers more : List ℕ) (groups : List (List ℕ)) → AllZip IsGroup (numbers ++ more) groups
     → AllZip IsGroup numbers (take (length numbers) groups)
@@ -57,6 +64,10 @@ but_last arc [] = ([], arc, refl)
 but_last arc (next ∷ arcs) =
     let (middle, last, joined) = but_last next arcs in
     (arc ∷ middle, last, ap (λ l. arc ∷ l) joined)
+
+fault_from_answer : {fault : Error} (found : Option Error) (arcs : List ℕ) → answer found arcs ≡ Err fault → found ≡ Some fault
+fault_from_answer None arcs same = cc
+fault_from_answer (Some fault) arcs same = cc
 
 module _ (capacity : ℕ) where
   -- ---- one arc
@@ -129,6 +140,22 @@ module _ (capacity : ℕ) where
   text_read (first ∷ arcs) rest identifier fits follows =
       first_read first arcs rest (first_low first arcs identifier) follows
       ∙ arcs_read (first ∷ []) arcs [] rest (omega arith) (rw (append-nil arcs) identifier) fits follows
+
+  -- a capacity of as many octets as they have, and as what follows has bytes, is enough
+  pub below_enough : (arcs rest : List ℕ) → IsIdentifier root_rule arcs → size arcs + length rest ≤ capacity → FollowsArc rest
+      → text_answer root_rule (text_of arcs ++ rest) capacity ≢ Err Length
+  below_enough arcs rest identifier fits follows same =
+      let read = ap without_index (text_read arcs rest identifier (omega arith) follows) in
+      after rest fits (sym read ∙ same_text capacity (text_of arcs ++ rest) ∙ same) where
+        after : (rest : List ℕ) → size arcs + length rest ≤ capacity → without_index (found_after capacity arcs rest) ≢ Err Length
+        after [] fits same = let ok = rw (few_none root_rule arcs identifier) at same in cc
+        after (byte ∷ []) fits same = cc
+        after (byte ∷ next ∷ bytes) fits same =
+            let components = components_of (next ∷ bytes) in
+            let room : size (arcs ++ map number_of components) ≤ capacity =
+            omega (arith, size_more arcs (map number_of components) identifier, widths_components components, bytes_of-components (next ∷ bytes)) in
+            components_enough root_rule capacity arcs components room
+            (fault_from_answer (components_fault root_rule capacity arcs components) _ (sym (same_answer capacity arcs components) ∙ same))
 
   -- their octets, at the start of an output
   pub octets_written : {octets : List ℕ} (rest old new : List ℕ) → IsEncoding root_rule (arcs_of_octets octets) octets

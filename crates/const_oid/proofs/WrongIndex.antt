@@ -12,7 +12,7 @@ use Rattle.const_oid.specs.Text.{number_of, component_fault, components_fault, c
 use Rattle.const_oid.proofs.{Enough.{bytes_enough, size_text}, Lists.append-cons, Texts.text_fault-none}
 
 -- without the index
-abbrev without_index : Result (List ℕ) (Error × ℕ) → Result (List ℕ) Error
+abbrev pub without_index : Result (List ℕ) (Error × ℕ) → Result (List ℕ) Error
 without_index found = result_map_both (λ arcs. arcs) (λ fault. fault.0) found
 
 -- the first of two, by what is enough for its fault
@@ -24,7 +24,7 @@ first_index (Some own) enough index next later same other rest found =
     rw (← same (λ e. other (grind (arith)))) (grind (arith))
 
 module _ (capacity : ℕ) where
-  same_answer : (before : List ℕ) (components : List (List ℕ)) → without_index (components_found capacity before components)
+  pub same_answer : (before : List ℕ) (components : List (List ℕ)) → without_index (components_found capacity before components)
       ≡ answer (components_fault root_rule capacity before components) (before ++ map number_of components)
   same_answer [] [] = refl
   same_answer (arc ∷ []) [] = refl

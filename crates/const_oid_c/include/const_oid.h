@@ -216,6 +216,18 @@ CONST_OID_NODISCARD CONST_OID_READS(1, 2) CONST_OID_WRITES(3, 4) const_oid_statu
 CONST_OID_NODISCARD CONST_OID_READS(1, 2) CONST_OID_WRITES(3, 4) const_oid_status const_oid_from_text(
     const char *text, size_t text_len, uint8_t *CONST_OID_RESTRICT out, size_t out_len);
 
+/* Writes the contents octets for the arcs in octets and then those in a text, each after a dot: for 1.3.6 and ".1.4",
+ * those of 1.3.6.1.4. For an empty text they are those that were given. Both may have any length. If the octets are
+ * invalid, returns their code. If the text is, returns what const_oid_from_text does for the whole dotted text, but
+ * counts components of this text from the one before its first dot, which is empty: it is the last arc of the octets.
+ * So of ".3.x" the component 2 is wrong, and of "." it is 0, by TRAILING_DOT. A first byte that is not a dot is wrong at
+ * 0, by DIGIT_EXPECTED.
+ *
+ * There are no more octets than those given and the bytes of the text, so an output of as many is long enough. */
+CONST_OID_NODISCARD CONST_OID_READS(1, 2) CONST_OID_READS(3, 4) CONST_OID_WRITES(5, 6) const_oid_status
+const_oid_from_text_below(const uint8_t *octets, size_t len, const char *text, size_t text_len,
+    uint8_t *CONST_OID_RESTRICT out, size_t out_len);
+
 /* Writes dotted text for octets of any length: the arcs in decimal, joined by dots. */
 CONST_OID_NODISCARD CONST_OID_READS(1, 2) CONST_OID_WRITES(3, 4) const_oid_status const_oid_to_text(
     const uint8_t *octets, size_t len, char *CONST_OID_RESTRICT out, size_t out_len);

@@ -1,16 +1,17 @@
 -- A result at a capacity is the result at a greater one, unless it is the fault `Length`.
-use Rattle.std.proofs.Common.{◌≡◌, ◌≢◌, ℕ, ◌≤◌, List, [], ◌∷◌, ◌++◌, length, true, refl, arith, Ok, Err, ap, sym, ◌∙◌}
+use Rattle.std.proofs.Common.{◌≡◌, ◌≢◌, ℕ, ◌≤◌, List, [], ◌∷◌, ◌++◌, length, map, true, refl, arith, Ok, Err, ap, sym, ◌∙◌}
 use Rattle.std.specs.Prelude.{Option, None, Some, Result}
 use Rattle.std.specs.Str.{is_utf8}
 use Rattle.std.proofs.lemmas.Bool.Decides.{nat_tests}
 use Rattle.const_oid.specs.declared.error.Error.{Error}
 use Rattle.const_oid.specs.declared.error.Error.TheVariants.{Length}
-use Rattle.const_oid.specs.Identifier.{root_rule, IsEncoding}
+use Rattle.const_oid.specs.{Contents.arcs_of_octets, Identifier.{root_rule, size, IsEncoding}, Output.IsEncodedIn}
 use Rattle.const_oid.specs.Items.{arc_fault, items_fault, item_answer}
 use Rattle.const_oid.specs.{declared.outputs.Stop.Stop, Stop.{component_at, error_at, IsWrongAt}}
 use Rattle.const_oid.specs.Text.{component_fault, components_fault, components_of, number_of, text_answer}
 use Rattle.const_oid.proofs.Ascii.{answer_utf8}
-use Rattle.const_oid.proofs.{Encodings.encoding_of-encoded, Enough.bytes_enough}
+use Rattle.const_oid.proofs.{Encodings.encoding_of-encoded, Enough.{bytes_enough, size_enough_text}}
+use Rattle.const_oid.proofs.{Lengths.length_is_size, Texts.denoted_from_answer}
 use Rattle.const_oid_c.specs.Results.{octets_of_text}
 use Rattle.const_oid_c.specs.Status.{fault_at, max_len}
 
@@ -86,3 +87,12 @@ pub stop_status : (text : List ℕ) (stop : Stop) → length text ≤ max_len �
 stop_status text stop within utf8 is =
     let index = is.1 (λ same. bytes_enough root_rule text max_len within (is.0 ∙ ap Err same)) in
     rw (utf8, is.0, index) refl
+
+-- at a capacity of just the octets that were counted, a text has the same answer
+pub same_counted : (len : ℕ) (text none nothing : List ℕ) → len ≤ max_len → IsEncodedIn max_len (text_answer root_rule text max_len) none nothing len
+    → text_answer root_rule text len ≡ text_answer root_rule text max_len
+same_counted len text none nothing less is =
+    let denoted = denoted_from_answer root_rule max_len text (arcs_of_octets is.octets) (sym is.answer) in
+    let count = length_is_size is.encoding in
+    let fits : size (map number_of (components_of text)) ≤ len = rw (← denoted.values) (omega (arith, count, is.long)) in
+    same_text len max_len less text (size_enough_text root_rule len text fits)

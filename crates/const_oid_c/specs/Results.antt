@@ -1,5 +1,5 @@
 -- The results of functions: what a function writes, or its status.
-use Rattle.std.specs.Prelude.{◌≡◌, ℕ, List, [], ◌∷◌, codes, drop, length, nat_eq, nat_lt, take, slice_index_or, if◌then◌else◌, Option, Some, None, Result, Ok, Err}
+use Rattle.std.specs.Prelude.{◌≡◌, ℕ, ◌-◌, ◌==◌, List, [], ◌∷◌, ◌++◌, codes, drop, length, nat_eq, nat_lt, take, slice_index_or, if◌then◌else◌, Option, Some, None, Result, Ok, Err}
 use Rattle.std.specs.Cmp.Lexicographic.{pointwise}
 use Rattle.std.specs.Option.{option_map, option_map_or}
 use Rattle.std.specs.Result.{result_flatten, result_map_both}
@@ -9,7 +9,7 @@ use Rattle.const_oid.specs.declared.error.Error.TheVariants.{ArcInvalid, ArcTooB
 use Rattle.const_oid.specs.Contents.{octet_answer, borrowed_capacity}
 use Rattle.const_oid.specs.Error.{message_of}
 use Rattle.const_oid.specs.Identifier.{root_rule, encoding_of}
-use Rattle.const_oid.specs.Text.{components_of, text_answer, wrong_index}
+use Rattle.const_oid.specs.Text.{components_of, dot, text_answer, text_of, wrong_index}
 use Rattle.const_oid.specs.Tree.{child_of, parent_of}
 use Rattle.const_oid.specs.Typed.{dotted}
 use Rattle.const_oid_c.specs.declared.status.Status.{Status}
@@ -65,6 +65,22 @@ octets_of_ascii text = octets_or_fault (wrong_index [] (components_of text)) (te
 -- the contents octets of the arcs that a text denotes, of any length
 abbrev pub octets_of_text : List ℕ → Result (List ℕ) Status
 octets_of_text text = if is_utf8 text then octets_of_ascii text else Err not_utf8_status
+
+-- the contents octets of arcs and of those of a text in ASCII after them, each after a dot
+-- a wrong component has its index in this text, whose first one is the last of the arcs before it
+abbrev pub octets_of_later : List ℕ → List ℕ → Result (List ℕ) Status
+octets_of_later arcs text = let whole = text_of arcs ++ text in
+    octets_or_fault (wrong_index [] (components_of whole) - (length arcs - 1)) (text_answer root_rule whole max_len)
+
+-- the same of any bytes: where the first one is no dot, it is wrong
+abbrev pub octets_of_bytes_below : List ℕ → List ℕ → Result (List ℕ) Status
+octets_of_bytes_below arcs [] = octets_of_later arcs []
+octets_of_bytes_below arcs (byte ∷ bytes) = if byte == dot then octets_of_later arcs (byte ∷ bytes) else Err (fault_at 0 (DigitExpected byte))
+
+-- the same of a text, after the arcs of octets
+abbrev pub octets_of_text_below : List ℕ → List ℕ → Result (List ℕ) Status
+octets_of_text_below octets text = result_flatten (result_map_both
+    (λ arcs. if is_utf8 text then octets_of_bytes_below arcs text else Err not_utf8_status) error_status (borrowed_answer octets))
 
 -- the contents octets of the parent, if there is one
 abbrev pub octets_of_parent : List ℕ → Result (List ℕ) Status

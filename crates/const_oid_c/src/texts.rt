@@ -3,9 +3,10 @@ ghost use Rattle.std.specs.Prelude.{◌≡◌, ◌≢◌, ◌≤◌, [], false, 
 ghost use Rattle.std.specs.Str.{is_utf8, IsAscii};
 ghost use Rattle.const_oid.specs.Text.{components_of, text_of, text_answer, wrong_index};
 ghost use Rattle.const_oid.specs.Identifier.{root_rule, default_capacity};
+ghost use Rattle.const_oid.specs.OidRef.{ref_arcs};
 ghost use Rattle.const_oid.specs.Stop.{component_at, error_at, IsWrongAt};
 ghost use Rattle.const_oid_c.specs.Status.{fault_at, max_len, output_status, output_after};
-ghost use Rattle.const_oid_c.specs.Results.{octets_of_text, output_of, borrowed_answer};
+ghost use Rattle.const_oid_c.specs.Results.{octets_of_text, octets_of_bytes_below, octets_of_text_below, output_of, borrowed_answer};
 
 use crate::order::MAX_OCTETS;
 use crate::output::write_bytes;
@@ -95,6 +96,51 @@ fn read_long_text(text: &[u8], out: &mut [u8]) -> Result<Status, Stop>
     }
     let _ = outputs::parse_or_stop(text, out, len);
     Ok(len_status(len))
+}
+
+/// Writes the contents octets of the identifier with the arcs of octets and then those of a text, each after a dot.
+#[unsafe(no_mangle)]
+pub extern "C" fn const_oid_from_text_below(octets: &[u8], text: &[u8], out: &mut [u8]) -> Status
+    ensures status { result ≡ output_status (length out.old) (octets_of_text_below octets.now text.now) }
+    ensures written { out.new ≡ output_after out.old (octets_of_text_below octets.now text.now) }
+{
+    let oid = match ObjectIdentifierRef::from_bytes(octets) {
+        Ok(oid) => oid,
+        Err(fault) => return error_status(fault),
+    };
+    match write_below(oid, text, out) {
+        Ok(status) => status,
+        Err((fault, index)) if is_utf8(text) => fault_at(index, fault),
+        Err(_) => code_status(NOT_UTF8),
+    }
+}
+
+/// Writes the contents octets of an identifier and then those of a text, or counts those that do not fit. An error has
+/// the index of its component.
+fn write_below(
+    above: ObjectIdentifierRef<'_>,
+    text: &[u8],
+    out: &mut [u8],
+) -> Result<Status, (Error, usize)>
+    ensures { let octets = octets_of_bytes_below (ref_arcs above.entry) text.now in MatchResult result
+        (λ status. (is_utf8 text.now ≡ true) × (status ≡ output_status (length out.old) octets) × (out.new ≡ output_after out.old octets))
+        (λ wrong. (octets ≡ Err (fault_at wrong.1 wrong.0)) × (out.new ≡ out.old)) }
+{
+    match text.first() {
+        Some(actual) if *actual != b'.' => return Err((
+            Error::DigitExpected { actual: *actual },
+            0,
+        )),
+        _ => (),
+    }
+    match outputs::parse_below_or_stop(above, text, &mut [], usize::MAX) {
+        Ok(len) if len > out.len() => Ok(too_short_status(len)),
+        Ok(len) => {
+            let _ = outputs::parse_below_or_stop(above, text, out, len);
+            Ok(len_status(len))
+        }
+        Err(stop) => Err(outputs::fault_at_stop(text, stop)),
+    }
 }
 
 /// Whether a text is UTF-8: most wrong ones are ASCII, which is seen in fewer steps.

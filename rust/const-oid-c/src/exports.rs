@@ -262,6 +262,28 @@ pub unsafe extern "C" fn const_oid_from_text(text: *const u8, text_len: usize, o
 ///
 /// The header says what a caller guarantees.
 #[unsafe(no_mangle)]
+pub unsafe extern "C" fn const_oid_from_text_below(
+    octets: *const u8,
+    octets_len: usize,
+    text: *const u8,
+    text_len: usize,
+    out: *mut u8,
+    out_len: usize,
+) -> Status {
+    // SAFETY: the caller guarantees it.
+    unsafe {
+        crate::erased::texts::const_oid_from_text_below(
+            input(octets, octets_len),
+            input(text, text_len),
+            output(out, out_len),
+        )
+    }
+}
+
+/// # Safety
+///
+/// The header says what a caller guarantees.
+#[unsafe(no_mangle)]
 pub unsafe extern "C" fn const_oid_to_text(
     octets: *const u8,
     octets_len: usize,

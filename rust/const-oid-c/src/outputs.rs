@@ -24,6 +24,11 @@ pub(crate) fn write_parsed(text: &[u8], out: &mut Output<u8>, len: usize) {
     let _ = outputs::parse_or_stop(text, zeroed(&mut out[..len]), len);
 }
 
+/// Writes the octets of an identifier and a text after it, which are so many, at the start of an output.
+pub(crate) fn write_parsed_below(above: &ObjectIdentifierRef, text: &[u8], out: &mut Output<u8>, len: usize) {
+    let _ = outputs::parse_below_or_stop(above, text, zeroed(&mut out[..len]), len);
+}
+
 /// Writes the octets of arcs at the start of an output, and returns how many. On an error it is unchanged.
 pub(crate) fn bytes_from_arcs(arcs: &[u32], out: &mut Output<u8>) -> Result<usize> {
     let len = outputs::bytes_len_from_arcs(arcs, out.len())?;

@@ -192,6 +192,8 @@ pub const CRATES: &[Crate] = &[
             "arcs": "out[..len].copy_from_slice(&arcs[..len]);" => "out[..len].copy_from_slice(crate::edge::written(&arcs[..len]));", UNWRITTEN;
             "texts": "oid.encode_text(out)" => "crate::outputs::encode(oid, out)", UNWRITTEN;
             "texts": "let _ = outputs::parse_or_stop(text, out, len);" => "crate::outputs::write_parsed(text, out, len);", UNWRITTEN;
+            "texts": "let _ = outputs::parse_below_or_stop(above, text, out, len);"
+                => "crate::outputs::write_parsed_below(above, text, out, len);", UNWRITTEN;
             "arcs": "outputs::bytes_from_arcs(arcs, out)" => "crate::outputs::bytes_from_arcs(arcs, out)", UNWRITTEN;
             "errors": "error.encode_text(out)" => "crate::outputs::encode_error(error, out)", UNWRITTEN;
         },

@@ -74,6 +74,40 @@ fn read_long_text(text: &[u8], out: &mut crate::edge::Output<u8>) -> Result<Stat
     Ok(len_status(len))
 }
 
+/// Writes the contents octets of the identifier with the arcs of octets and then those of a text, each after a dot.
+pub fn const_oid_from_text_below(octets: &[u8], text: &[u8], out: &mut crate::edge::Output<u8>) -> Status {
+    let oid = match ObjectIdentifierRef::from_bytes(octets) {
+        Ok(oid) => oid,
+        Err(fault) => return error_status(fault),
+    };
+    match write_below(oid, text, out) {
+        Ok(status) => status,
+        Err((fault, index)) if is_utf8(text) => fault_at(index, fault),
+        Err(_) => code_status(NOT_UTF8),
+    }
+}
+
+/// Writes the contents octets of an identifier and then those of a text, or counts those that do not fit. An error has
+/// the index of its component.
+fn write_below(
+    above: &ObjectIdentifierRef,
+    text: &[u8],
+    out: &mut crate::edge::Output<u8>,
+) -> Result<Status, (Error, usize)> {
+    match text.first() {
+        Some(actual) if *actual != b'.' => return Err((Error::DigitExpected { actual: *actual }, 0)),
+        _ => (),
+    }
+    match outputs::parse_below_or_stop(above, text, &mut [], usize::MAX) {
+        Ok(len) if len > out.len() => Ok(too_short_status(len)),
+        Ok(len) => {
+            crate::outputs::write_parsed_below(above, text, out, len);
+            Ok(len_status(len))
+        }
+        Err(stop) => Err(outputs::fault_at_stop(text, stop)),
+    }
+}
+
 /// Whether a text is UTF-8: most wrong ones are ASCII, which is seen in fewer steps.
 fn is_utf8(text: &[u8]) -> bool {
     has_no_high_bit(text) || str::from_utf8(text).is_ok()

@@ -1,11 +1,11 @@
-use Rattle.std.proofs.Common.{◌≡◌, ℕ, ◌≤◌, List, length, map, take, ap, arith, refl, sym, ◌∙◌, Ok, Err}
+use Rattle.std.proofs.Common.{◌≡◌, ℕ, ◌≤◌, List, length, take, ap, arith, refl, ◌∙◌, Ok, Err}
 use Rattle.std.specs.Prelude.{MatchResult, Result}
 use Rattle.const_oid.specs.{declared.error.Error.Error, Contents.arcs_of_octets}
-use Rattle.const_oid.specs.{Identifier.{root_rule, size}, Output.IsEncodedIn, Text.{components_of, number_of, text_answer}}
-use Rattle.const_oid.proofs.{Appended.taken, Enough.{size_enough_text}, Lengths.length_is_size, Texts.denoted_from_answer}
+use Rattle.const_oid.specs.{Identifier.{root_rule}, Output.IsEncodedIn, Text.{text_answer}}
+use Rattle.const_oid.proofs.{Appended.taken}
 use Rattle.const_oid.specs.{declared.outputs.Stop.Stop, Stop.{IsWrongAt}}
 use Rattle.const_oid_c.specs.{Results.octets_of_text, Status.{max_len, output_status, output_after}}
-use Rattle.const_oid_c.proofs.{Capacities.{fitting_text, same_text, wrong_stop}, Writes.{room_status, room_after, short_status, short_after}}
+use Rattle.const_oid_c.proofs.{Capacities.{fitting_text, same_counted, wrong_stop}, Writes.{room_status, room_after, short_status, short_after}}
 use Rattle.const_oid_c.proofs.texts.read_long_text.Goals as goal
 
 -- ---- up to 255 octets
@@ -46,7 +46,7 @@ returns-then-len-out c =
 not_both : {fault : Error} {x : List ℕ} {read : Result (List ℕ) Error} → read ≡ Err fault → read ≡ Ok x → ⊥
 not_both first second = cc
 
--- at a capacity of just the octets that were counted, the text has the same answer, so they are written
+-- the octets that were counted are written
 counted_written : (len : ℕ) (text none nothing old new : List ℕ) (result : Result ℕ Stop) → len ≤ length old
     → len ≤ max_len → IsEncodedIn max_len (text_answer root_rule text max_len) none nothing len
     → MatchResult result (IsEncodedIn len (text_answer root_rule text len) old new)
@@ -56,10 +56,7 @@ counted_written len text none nothing old new (Ok count) room less is again =
     again.begins room ∙ room_after count old again.octets again.long (omega (arith, again.within))
     ∙ ap (output_after old) (fitting_text len less text (arcs_of_octets again.octets) again.octets again.encoding again.answer)
 counted_written len text none nothing old new (Err stop) room less is again =
-    let denoted = denoted_from_answer root_rule max_len text (arcs_of_octets is.octets) (sym is.answer) in
-    let count = length_is_size is.encoding in
-    let fits : size (map number_of (components_of text)) ≤ len = rw (← denoted.values) (omega (arith, count, is.long)) in
-    absurd (not_both again.0 (same_text len max_len less text (size_enough_text root_rule len text fits) ∙ is.answer))
+    absurd (not_both again.0 (same_counted len text none nothing less is ∙ is.answer))
 
 pub returns : goal.returns
 returns c =
