@@ -26,6 +26,7 @@ pub mod oid_ref;
 pub mod outputs;
 mod parser;
 mod parts;
+#[cfg(feature = "db")]
 mod readable;
 mod root;
 pub mod search;

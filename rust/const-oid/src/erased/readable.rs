@@ -7,7 +7,7 @@ use crate::erased::links::Entry;
 use crate::erased::tables::Tables;
 use crate::erased::typed::{MAX_NAME_BYTES, bare, begins_with_digit};
 
-impl<'a> Tables<'a> {
+impl Tables<'_> {
     /// Whether each name is parsed as itself, alone and before arcs: then what these tables display of an identifier is
     /// parsed as this identifier.
     ///
