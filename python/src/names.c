@@ -47,24 +47,26 @@ static PyObject *names_of(PyObject *type, PyObject *oid) {
     return PyErr_Occurred() ? NULL : PyList_AsTuple(names);
 }
 
-/* As const_oid_parse, but an error has the text after the prefix, with arcs in place of a name. Before arcs, a name has
- * at most UINT8_MAX bytes. */
+/* Raises the error of a typed text, with what comes after its prefix. */
+static PyObject *raise_typed(PyObject *type, const_oid_status status, const char *text, size_t len) {
+    const_oid_range bare;
+    size_t bare_len = const_oid_bare_text(text, len, &bare).len;
+    OWNED *given = PyUnicode_DecodeUTF8(text + bare.start, (Py_ssize_t)bare_len, "surrogatepass");
+    return given ? raise_component(type, status, given) : NULL;
+}
+
 static PyObject *parse(PyObject *type, PyObject *text) {
     OWNED *bytes = bytes_of(text, "text");
     if (!bytes) return NULL;
-    const_oid_octets name = {NULL, 0};
-    const char *start = PyBytes_AsString(bytes), *end = start + PyBytes_Size(bytes);
-    while (start < end && const_oid_internal_is_blank(end[-1])) end--;
-    while (start < end && const_oid_internal_is_blank(*start)) start++;
-    start += const_oid_internal_prefix_len(start, (size_t)(end - start));
-    const char *rest = (end - start < UINT8_MAX ? end : start + UINT8_MAX) + 1;
-    while (!name.len && --rest > start) {
-        if (rest == end || *rest == '.') name = const_oid_from_part(start, (size_t)(rest - start));
-    }
-    OWNED *oid = name.len ? identifier_from_items(type, name) : PyUnicode_FromString("");
-    OWNED *more = oid ? PyUnicode_DecodeUTF8(rest, end - rest, "surrogatepass") : NULL;
-    OWNED *given = more ? PyUnicode_FromFormat("%S%U", oid, more) : NULL;
-    return given ? identifier_from_text(type, given) : NULL;
+    const char *typed = PyBytes_AsString(bytes);
+    size_t len = (size_t)PyBytes_Size(bytes);
+    const_oid_status status = const_oid_parse(typed, len, NULL, 0);
+    if (status.code != CONST_OID_OUTPUT_TOO_SHORT) return raise_typed(type, status, typed, len);
+    OWNED *octets = PyBytes_FromStringAndSize(NULL, (Py_ssize_t)status.len);
+    if (!octets) return NULL;
+    uint8_t *out = (uint8_t *)PyBytes_AsString(octets);
+    const_oid_octets items = {out, const_oid_parse(typed, len, out, status.len).len};
+    return identifier_from_items(type, items);
 }
 
 /* Arcs have at most four bytes of text for each octet. With a name and a zero, this may be past 32 bits. */

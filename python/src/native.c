@@ -54,6 +54,12 @@ static PyObject *raise_status(PyObject *self, const_oid_status status, PyObject 
     return raise_by_support(self, "OidError", Py_BuildValue("IIO", status.code, status.detail, given));
 }
 
+/* The same of a wrong component of what was typed. */
+PyObject *raise_component(PyObject *self, const_oid_status status, PyObject *given) {
+    PyObject *arguments = Py_BuildValue("IIOn", status.code, status.detail, given, (Py_ssize_t)status.len);
+    return raise_by_support(self, "OidError", arguments);
+}
+
 /* What is given may be borrowed of what garbage changes, which Python 3.11 finds while the tuple is made. */
 PyObject *raise_wrong_type(PyObject *self, const char *wanted, PyObject *given) {
     return raise_by_support(self, "_wrong_type", Py_BuildValue("sN", wanted, Py_NewRef(given)));
@@ -110,7 +116,7 @@ static PyObject *finish(const Output *out, PyObject *self, const_oid_status stat
 }
 
 /* Octets of a text are at most as many as its bytes. Python makes no UTF-8 of a surrogate. */
-PyObject *identifier_from_text(PyObject *type, PyObject *text) {
+static PyObject *identifier_from_text(PyObject *type, PyObject *text) {
     Py_ssize_t len;
     const char *data = PyUnicode_AsUTF8AndSize(text, &len);
     if (!data && PyErr_ExceptionMatches(PyExc_UnicodeEncodeError)) {

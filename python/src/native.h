@@ -34,7 +34,7 @@ static inline PyTypeObject *base_by(PyTypeObject *type, destructor dealloc) {
 
 void identifier_dealloc(PyObject *self);
 PyObject *identifier_from_items(PyObject *type, const_oid_octets items);
-PyObject *identifier_from_text(PyObject *type, PyObject *text);
+PyObject *raise_component(PyObject *self, const_oid_status status, PyObject *given);
 
 static inline int is_identifier(PyObject *object) { return base_by(Py_TYPE(object), identifier_dealloc) != NULL; }
 

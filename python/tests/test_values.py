@@ -42,8 +42,10 @@ WRONG = [
     (ObjectIdentifier, 9, "OID ends with invalid trailing '.'", {"1.": (0, 0), "3.": (0, 0), "1.2.": (0, 1)}),
     *((ObjectIdentifier, 4, f"expected digit, got {shown}", {given: (byte, piece)}) for shown, given, byte, piece in (
         ("'.'", ".", 46, 0), ("'.'", "..", 46, 0), ("'.' (remove the first dot)", ".1.3.6", 46, 0),
-        ("'x'", "x.2", 120, 0), ("'x'", "1.2.3x.y", 120, 2), (r"'\x00'", "1.2\0.3", 0, 1), ("'ü'", "1.2.ü٣", 0xC3, 2),
-        (r"'\u2028'", "1.2.\u2028", 0xE2, 2), ("'😀'", "1.2.😀.x", 0xF0, 2))),
+        ("'x' (names.parse takes names)", "x.2", 120, 0), ("'x'", "1.2.3x.y", 120, 2), (r"'\x00'", "1.2\0.3", 0, 1),
+        ("'ü'", "1.2.ü٣", 0xC3, 2), (r"'\u2028'", "1.2.\u2028", 0xE2, 2), ("'😀'", "1.2.😀.x", 0xF0, 2))),
+    (names.parse, 4, "no identifier has this name", {"no name.1": (110, 0), "x": (120, 0)}),
+    (names.parse, 4, "expected digit, got 'x'", {"sysUpTime.x": (120, 1), "ANSI X9.62.x": (120, 1), "1.x": (120, 1)}),
     (ObjectIdentifier, 11, "the text is not UTF-8", {"1.\ud800": (0, 1), "1.2.\ud800": (0, 2)}),
     (from_bytes, 3, "OID contains arc with invalid base 128 encoding", {b"\x2a\x80\x01": (0, None)}),
     (from_der, 14, "the tag is not 6", {b"": (0, None), b"\x26\1\x2a": (0, None)}),

@@ -22,6 +22,7 @@ mod fast;
 // erase: omit
 pub mod laws;
 pub(crate) mod links;
+mod named;
 pub mod oid;
 pub mod oid_ref;
 // Its functions are for the other crates, and so are those of `search`: Rust hides them.

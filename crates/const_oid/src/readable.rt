@@ -6,7 +6,8 @@ ghost use Rattle.const_oid.specs.Typed.{ArePlain, AreReadable, HasNoFront, IsPla
 use crate::compare::is_same_name;
 use crate::links::Entry;
 use crate::tables::Tables;
-use crate::typed::{MAX_NAME_BYTES, bare, begins_with_digit};
+use crate::named::MAX_NAME_BYTES;
+use crate::typed::{bare, begins_with_digit};
 
 impl Tables<'_> {
     /// Whether each name is parsed as itself, alone and before arcs: then what these tables display of an identifier is

@@ -175,7 +175,7 @@ typedef struct const_oid_octets {
     size_t len;            /* how many there are */
 } const_oid_octets;
 
-/* Indices in a list, counted from 0: from `start` up to, but not including, `end`. */
+/* Indices in a list or a text, counted from 0: from `start` up to, but not including, `end`. */
 typedef struct const_oid_range {
     size_t start;
     size_t end;
@@ -231,6 +231,18 @@ const_oid_from_text_below(const uint8_t *octets, size_t len, const char *text, s
 /* Writes dotted text for octets of any length: the arcs in decimal, joined by dots. */
 CONST_OID_NODISCARD CONST_OID_READS(1, 2) CONST_OID_WRITES(3, 4) const_oid_status const_oid_to_text(
     const uint8_t *octets, size_t len, char *CONST_OID_RESTRICT out, size_t out_len);
+
+/* Writes a dot and the decimal of each arc of an identifier after those of a prefix, such as ".3.0". Both may have any
+ * length. The code is NONE if the identifier does not begin with the prefix. */
+CONST_OID_NODISCARD CONST_OID_READS(1, 2) CONST_OID_READS(3, 4) CONST_OID_WRITES(5, 6) const_oid_status
+const_oid_to_text_below(const uint8_t *octets, size_t len, const uint8_t *prefix, size_t prefix_len,
+    char *CONST_OID_RESTRICT out, size_t out_len);
+
+/* Finds what people type without the ASCII whitespace around it, and then without a prefix: a dot, OID. or urn:oid:, in
+ * any case, or a module and ::, which is a letter, and then letters, digits and hyphens. Stores where it is in the text,
+ * of any bytes, and returns its length. */
+CONST_OID_NODISCARD CONST_OID_READS(1, 2) CONST_OID_NONNULL(3) const_oid_status const_oid_bare_text(
+    const char *text, size_t text_len, const_oid_range *CONST_OID_RESTRICT range);
 
 /* Checks octets of any length. The code is 0 exactly if they encode an identifier. */
 CONST_OID_NODISCARD CONST_OID_READS(1, 2) const_oid_status const_oid_check(const uint8_t *octets, size_t len);

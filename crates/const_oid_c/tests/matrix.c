@@ -21,11 +21,11 @@
 
 enum { ARGUMENTS = 4, MOST = 201000, SLOT = 1 << 21, AROUND = 64, UNWRITTEN = 0xEE };
 
-enum kind { NOTHING, OCTETS, DER, TEXT, ARCS, LIST, ITEM, INDEX, NUMBER, OCTETS_OUT, TEXT_OUT, ARCS_OUT, RANGE_OUT,
-    ITEM_OUT };
+enum kind { NOTHING, OCTETS, DER, TEXT, BELOW, ARCS, LIST, ITEM, INDEX, NUMBER, OCTETS_OUT, TEXT_OUT, ARCS_OUT,
+    RANGE_OUT, ITEM_OUT };
 
 /* How many bytes an item has; a number has none. */
-static const size_t sizes[] = {0, 1, 1, 1, sizeof(uint32_t), sizeof(const_oid_octets), 1, 0, 0, 1, 1, sizeof(uint32_t),
+static const size_t sizes[] = {0, 1, 1, 1, 1, sizeof(uint32_t), sizeof(const_oid_octets), 1, 0, 0, 1, 1, sizeof(uint32_t),
     sizeof(const_oid_range), sizeof(const_oid_octets)};
 
 /* An argument: items and how many there are, or a number. */
@@ -266,16 +266,16 @@ static void with_outputs(void) {
     if (len > CONST_OID_MAX_OCTETS && !is_long) with_huge_outputs();
 }
 
-/* Arguments with a result that is written: the octets of 1.2.840.10045, their element, text and arcs, a list of 0.1,
- * them, 1.2.840.10045.1 and 2.5, a number, and outputs. */
+/* Arguments with a result that is written: the octets of 1.2.840.10045, their element, text and arcs, the text of arcs
+ * after them, a list of 0.1, them, 1.2.840.10045.1 and 2.5, a number, and outputs. */
 static const uint8_t usual[] = {0x2A, 0x86, 0x48, 0xCE, 0x3D, 1}, root[] = {1}, last[] = {0x55};
 static const uint8_t usual_der[] = {6, 5, 0x2A, 0x86, 0x48, 0xCE, 0x3D, 1};
 static const uint32_t usual_arcs[] = {1, 2, 840, 10045};
 static const char usual_text[] = "1.2.840.10045";
 static const const_oid_octets usual_list[] = {{root, 1}, {usual, 5}, {usual, 6}, {last, 1}};
 static const argument usual_arguments[] = {[OCTETS] = {usual, 5}, [ITEM] = {usual, 5},
-    [DER] = {usual_der, sizeof usual_der}, [TEXT] = {usual_text, sizeof usual_text - 1}, [ARCS] = {usual_arcs, 4},
-    [LIST] = {usual_list, 4}, [INDEX] = {NULL, 1}, [NUMBER] = {NULL, 1}, [OCTETS_OUT] = {usual, 64},
+    [DER] = {usual_der, sizeof usual_der}, [TEXT] = {usual_text, sizeof usual_text - 1}, [BELOW] = {".1.4", 4},
+    [ARCS] = {usual_arcs, 4}, [LIST] = {usual_list, 4}, [INDEX] = {NULL, 1}, [NUMBER] = {NULL, 1}, [OCTETS_OUT] = {usual, 64},
     [TEXT_OUT] = {usual, 64}, [ARCS_OUT] = {usual, 64}, [RANGE_OUT] = {usual, 64}, [ITEM_OUT] = {usual, 64}};
 enum { SEARCHED = 10 };
 
@@ -368,7 +368,8 @@ static void fill_der(void *out, size_t len, int form) {
     fill_octets(to + start, count, form);
 }
 
-/* Text of a length: 1.2 or 1.10, and then arcs of a digit, or one of many digits; or the last byte is wrong. */
+/* Text of a length: 1.2 or 1.10, and then arcs of a digit, or one of many digits; or the last byte is wrong; or blanks, or
+ * a module. */
 static void fill_text(void *out, size_t len, int form) {
     static const char bytes[] = {'.', 'x', 0, '\xFF'};
     char *to = out;
@@ -376,7 +377,15 @@ static void fill_text(void *out, size_t len, int form) {
     memcpy(to, "1.2", len < 3 ? len : 3);
     if (form == 1 && len > 4) memset(to + 4, '0', len - 4);
     if (form == 2 && len > 4) memset(to + 4, '9', len - 4);
-    if (form > 2 && len > 0) to[len - 1] = bytes[form - 3];
+    if (form > 2 && form < 7 && len > 0) to[len - 1] = bytes[form - 3];
+    if (form > 6) memset(to, form == 7 ? ' ' : 'm', len);
+    if (form == 8 && len > 2) memset(to + len - 3, ':', 2);
+}
+
+/* Such text after a dot. */
+static void fill_below(void *out, size_t len, int form) {
+    fill_text(out, len, form);
+    memcpy(out, ".12", len < 3 ? len : 3);
 }
 
 /* Arcs 1.2.127.127.., or those of 2 with each arc of five octets; or the first or the second one is out of range. */
@@ -393,7 +402,7 @@ static const struct {
     const void *start;
     size_t right;
 } fillings[] = {[OCTETS] = {fill_octets, 9, "\x2A\3\4\x80", 3}, [DER] = {fill_der, 9, "\x2A\3\4\x80", 3},
-    [TEXT] = {fill_text, 7, "1.2\xFF", 3}, [ARCS] = {fill_arcs, 5, starts, 1}};
+    [TEXT] = {fill_text, 9, "1.2\xFF", 3}, [BELOW] = {fill_below, 7, ".1.2\xFF", 4}, [ARCS] = {fill_arcs, 5, starts, 1}};
 
 static void vary_array(int lead, enum kind kind) {
     static uint32_t items[MOST];
@@ -509,8 +518,10 @@ static void vary(int lead) {
     else vary_array(lead, kind);
 }
 
+/* A prefix is shorter, so that text comes after it. */
 static void set_usual(void) {
     for (int at = 0; at < ARGUMENTS; at++) a[at] = usual_arguments[f->kinds[at]];
+    if (f->kinds[1] == OCTETS && f->kinds[2] == TEXT_OUT) a[1].len = 3;
 }
 
 /* The call ends the process. */
@@ -598,7 +609,7 @@ int LLVMFuzzerTestOneInput(const uint8_t *data, size_t len) {
         for (int at = 0; at < output_at(); at++) {
             enum kind kind = f->kinds[at];
             if (sizes[kind] == 0 || kind == LIST) continue;
-            with(at, kind == TEXT ? (void *)text : items, len / sizes[kind]);
+            with(at, kind == TEXT || kind == BELOW ? (void *)text : items, len / sizes[kind]);
         }
     }
     return 0;

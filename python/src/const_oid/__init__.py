@@ -114,21 +114,26 @@ class OidError(ValueError):
     code = cast(Code, _Field("code", "Why: one of `const_oid.Code`, which are numbers."))
     detail = cast(int, _Field("detail", "The arc with `ARC_INVALID`, the byte with `DIGIT_EXPECTED`, and else 0."))
     given = cast(object, _Field("given", "The text, octets (of read_der 128 of the element), arcs or arc, or None."))
+    _piece: int | None = None
 
-    def __init__(self, code: int, detail: int = 0, given: object = None) -> None:
+    def __init__(self, code: int, detail: int = 0, given: object = None, piece: int | None = None) -> None:
         super().__init__(code, detail)
         error_text(code, detail)  # an error if a number is out of range
         self.code, self.detail, self.given = Code(code), detail, given
+        if piece is not None:
+            self._piece = piece
 
     @property
     def piece(self) -> int | None:
         """The index of the first wrong component, between the dots of a text, or None if no component is wrong. A dot
-        at the end belongs to the component before it.
+        at the end belongs to the component before it. Of `names.parse`, a name, with its dots, is component 0.
 
         >>> [OidError(Code.TRAILING_DOT, 0, text).piece for text in ("3.", "1.2.")]
         [0, 1]
         """
-        return wrong_component(self.given.encode(errors="replace")) if isinstance(self.given, str) else None
+        if isinstance(self.given, str) and (self._piece is None or self.code is Code.NOT_UTF8):
+            return wrong_component(self.given.encode(errors="replace"))
+        return self._piece
 
     def __str__(self) -> str:
         text = error_text(self.code, self.detail) or f"{self.code.name} {self.detail}"
@@ -142,6 +147,8 @@ class OidError(ValueError):
             text = text.replace(chr(self.detail), repr(character[0] if character else chr(self.detail))[1:-1])
             if re.match(r"\.[0-9]", given):
                 text += " (remove the first dot)"
+            if re.match("[A-Za-z]", given) and self.piece == 0:
+                text = "no identifier has this name" if self._piece == 0 else f"{text} (names.parse takes names)"
         return text if self.given is None else f"{text}, given {_shown(self.given)}"
 
     def __repr__(self) -> str:

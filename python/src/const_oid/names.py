@@ -81,9 +81,10 @@ def parse(text: str) -> ObjectIdentifier:
     """Parse what people type and paste: dotted text, a name, or a name and arcs.
 
     Around it may be ASCII whitespace, but no vertical tab, and before it a prefix: `OID.` or `urn:oid:`, in any case, a
-    dot, or a module and `::`, which is a letter, and then letters, digits and hyphens, and is not looked up. A name is
-    what `by_name` finds: all of the text is tried, and then what is before each dot, from the last one on. An
-    `OidError` is that of the text after the prefix, with the arcs of a name in its place.
+    dot, or a module and `::`, which is a letter, and then letters, digits and hyphens, and is not looked up. What begins
+    with a digit is dotted text. Else it begins with a name that `by_name` finds: all of the text is tried, and then what
+    is before each dot, from the last one on. An `OidError` is that of the text after the prefix, with the arcs of a name
+    in its place.
 
     >>> parse(" IF-MIB::ifDescr.3"), parse("urn:oid:CN")
     (ObjectIdentifier('1.3.6.1.2.1.2.2.1.2.3'), ObjectIdentifier('2.5.4.3'))

@@ -13,6 +13,16 @@ pub(crate) fn encode(oid: &ObjectIdentifierRef, out: &mut Output<u8>) -> Option<
     Some(internal_for_const_oid_c::write_text(oid, zeroed(out)))
 }
 
+/// Writes the text of the arcs after those of a prefix as `encode` writes all.
+pub(crate) fn text_below(
+    oid: &ObjectIdentifierRef,
+    prefix: &ObjectIdentifierRef,
+    out: &mut Output<u8>,
+) -> Option<usize> {
+    let out = out.get_mut(..outputs::text_below_len(oid, prefix))?;
+    outputs::text_below(oid, prefix, zeroed(out))
+}
+
 /// Writes the element of an identifier as `encode` writes its text.
 pub(crate) fn write_element(oid: &ObjectIdentifierRef, out: &mut Output<u8>) -> Option<usize> {
     let out = out.get_mut(..oid.element_len())?;

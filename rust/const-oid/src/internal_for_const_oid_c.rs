@@ -2,7 +2,7 @@
 //! that the API lacks. No other crate may use this module: it may change in any release.
 
 pub use crate::erased::{Arcs, Error, ObjectIdentifier, ObjectIdentifierRef, Oid, Result};
-pub use crate::erased::{outputs, search};
+pub use crate::erased::{outputs, search, typed};
 
 use crate::Arc;
 use crate::erased::{encoder, text};

@@ -38,7 +38,6 @@ mod conversions;
 #[cfg(feature = "internal-for-const-oid-c")]
 #[doc(hidden)]
 pub mod internal_for_const_oid_c;
-#[cfg(feature = "db")]
 mod traits;
 
 pub use by_arcs::ByArcs;

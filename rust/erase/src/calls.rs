@@ -54,9 +54,10 @@ fn export(module: &str, name: &str, arguments: &[(&str, &str)], result: &str) ->
 }
 
 fn list_row(name: &str, arguments: &[(&str, &str)], result: &str) -> String {
-    let prints = ["const_oid_to_text", "const_oid_error_text"].contains(&name);
-    let kinds = arguments.iter().zip(0..).map(|((name, of), index)| match *name {
+    let prints = name.contains("_to_text") || name == "const_oid_error_text";
+    let kinds = arguments.iter().zip(0..).map(|((argument, of), index)| match *argument {
         "der" => format!("IN(DER, {index})"),
+        "text" if name.ends_with("_below") => format!("IN(BELOW, {index})"),
         "text" => format!("IN(TEXT, {index})"),
         "out" if prints => format!("OUT(TEXT, {index})"),
         _ => format!("{}, {index})", row(&KINDS, of)[1]),

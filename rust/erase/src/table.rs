@@ -48,6 +48,7 @@ pub const CRATES: &[Crate] = &[
             "lib": "pub(crate) mod links;" => "#[cfg(feature = \"db\")] pub(crate) mod links;", "as above";
             "lib": "pub mod tables;" => "#[cfg(feature = \"db\")] pub mod tables;", "as above";
             "lib": "mod readable;" => "#[cfg(feature = \"db\")] mod readable;", "as above";
+            "lib": "mod named;" => "#[cfg(feature = \"db\")] mod named;", "as above";
             "lib": "mod encoder;" => "pub(crate) mod encoder;", FOR_C;
             "lib": "mod text;" => "pub(crate) mod text;", FOR_C;
             "oid_ref": "#[derive(Copy, Clone, Eq, Hash)] pub struct ObjectIdentifierRef<'a> { pub ber: &'a [u8], }"
@@ -180,8 +181,8 @@ pub const CRATES: &[Crate] = &[
                 "C gives a pointer, which may be null, and a length: `edge.rs` has such a type";
             "": "out: &mut [u8]" => "out: &mut crate::edge::Output<u8>", UNWRITTEN;
             "": "out: &mut [u32]" => "out: &mut crate::edge::Output<u32>", UNWRITTEN;
-            "lists": "range: &mut Range" => "range: &mut core::mem::MaybeUninit<Range>", UNWRITTEN;
-            "lists": "*range = Range { start, end };" => "range.write(Range { start, end });", UNWRITTEN;
+            "": "range: &mut Range" => "range: &mut core::mem::MaybeUninit<Range>", UNWRITTEN;
+            "": "*range = Range { start, end };" => "range.write(Range { start, end });", UNWRITTEN;
             "der": "contents: &mut Octets<'a>" => "contents: &mut core::mem::MaybeUninit<Octets<'a>>", UNWRITTEN;
             "der": "*contents = Octets { octets };" => "contents.write(Octets::of(octets));", UNWRITTEN;
             "der": "oid.write_element(out)" => "crate::outputs::write_element(oid, out)", UNWRITTEN;
@@ -191,6 +192,7 @@ pub const CRATES: &[Crate] = &[
             "arcs": "out[index] = arc;" => "out[index].write(arc);", UNWRITTEN;
             "arcs": "out[..len].copy_from_slice(&arcs[..len]);" => "out[..len].copy_from_slice(crate::edge::written(&arcs[..len]));", UNWRITTEN;
             "texts": "oid.encode_text(out)" => "crate::outputs::encode(oid, out)", UNWRITTEN;
+            "typed": "outputs::text_below(oid, prefix, out)" => "crate::outputs::text_below(oid, prefix, out)", UNWRITTEN;
             "texts": "let _ = outputs::parse_or_stop(text, out, len);" => "crate::outputs::write_parsed(text, out, len);", UNWRITTEN;
             "texts": "let _ = outputs::parse_below_or_stop(above, text, out, len);"
                 => "crate::outputs::write_parsed_below(above, text, out, len);", UNWRITTEN;

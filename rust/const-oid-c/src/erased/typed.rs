@@ -9,9 +9,9 @@ use const_oid::internal_for_const_oid_c::typed::bare_range;
 use const_oid::internal_for_const_oid_c::{ObjectIdentifierRef, outputs};
 
 /// Finds what people type without blanks around it, and then without a prefix.
-pub fn const_oid_bare_text(text: &[u8], range: &mut Range) -> Status {
+pub fn const_oid_bare_text(text: &[u8], range: &mut core::mem::MaybeUninit<Range>) -> Status {
     let (start, end) = bare_range(text);
-    *range = Range { start, end };
+    range.write(Range { start, end });
     len_status(end - start)
 }
 
@@ -33,7 +33,7 @@ extern "C" fn write_below(
     prefix: &ObjectIdentifierRef,
     out: &mut crate::edge::Output<u8>,
 ) -> Status {
-    match outputs::text_below(oid, prefix, out) {
+    match crate::outputs::text_below(oid, prefix, out) {
         Some(len) => len_status(len),
         None => too_short_status(outputs::text_below_len(oid, prefix)),
     }

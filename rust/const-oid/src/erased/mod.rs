@@ -20,6 +20,8 @@ pub mod error;
 mod fast;
 #[cfg(feature = "db")]
 pub(crate) mod links;
+#[cfg(feature = "db")]
+mod named;
 pub mod oid;
 pub mod oid_ref;
 // Its functions are for the other crates, and so are those of `search`: Rust hides them.

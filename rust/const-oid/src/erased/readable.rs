@@ -4,8 +4,9 @@
 
 use crate::erased::compare::is_same_name;
 use crate::erased::links::Entry;
+use crate::erased::named::MAX_NAME_BYTES;
 use crate::erased::tables::Tables;
-use crate::erased::typed::{MAX_NAME_BYTES, bare, begins_with_digit};
+use crate::erased::typed::{bare, begins_with_digit};
 
 impl Tables<'_> {
     /// Whether each name is parsed as itself, alone and before arcs: then what these tables display of an identifier is

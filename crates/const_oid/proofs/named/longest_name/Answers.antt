@@ -1,7 +1,7 @@
 use Rattle.std.proofs.Common.{◌∙◌, arith, ap, sym, length}
 use Rattle.const_oid.specs.Typed.{entries_in, spelt_up_to}
 use Rattle.const_oid.proofs.SpeltUpTo.{at_most_255, found_here, found_before}
-use Rattle.const_oid.proofs.typed.longest_name.Goals as goal
+use Rattle.const_oid.proofs.named.longest_name.Goals as goal
 
 pub loop-oid-init : goal.loop-oid-init
 loop-oid-init c = (
