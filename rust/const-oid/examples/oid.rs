@@ -47,6 +47,27 @@ fn read(input: &str, is_hex: bool) -> Result<Oid> {
     Ok(Oid::from_bytes_sized(&octets)?)
 }
 
+/// Whether an input that is not read begins with a name, but with none that is known.
+fn has_unknown_name(input: &str) -> bool {
+    let text = input.trim_ascii().to_ascii_lowercase();
+    let text = text.rsplit(':').next().unwrap_or_default();
+    let text = text.strip_prefix("oid.").unwrap_or(text);
+    let mut dots = text.match_indices('.');
+    text.starts_with(|first: char| first.is_ascii_alphabetic())
+        && !dots.any(|(dot, _)| db::by_name(&text[..dot]).is_some())
+}
+
+/// What to do about an input that is not read.
+fn advice(input: &str, is_hex: bool) -> &'static str {
+    if !is_hex && has_unknown_name(input) {
+        ". No identifier has this name"
+    } else if input.contains('.') || octets_of(input).is_some() {
+        ""
+    } else {
+        ". --help says more"
+    }
+}
+
 /// What is printed of other identifiers with a name, as in OpenSSL or in a document that is asked later.
 fn others(name: &str, oid: &ObjectIdentifierRef) -> String {
     let entries = DB.entries().iter().chain(COMMON.entries());
@@ -85,7 +106,7 @@ pub fn run(arguments: &[String], out: &mut impl Write, errors: &mut impl Write) 
         match read(input, is_hex).or_else(|error| if is_hex { Err(error) } else { db::parse(input).or(Err(error)) }) {
             Ok(oid) => writeln!(out, "{}{}", describe(&oid), others(input, &oid))?,
             Err(error) => {
-                let advice = if input.contains('.') || octets_of(input).is_some() { "" } else { ". --help says more" };
+                let advice = advice(input, is_hex);
                 // The error, too, may have a control character of the input.
                 let line = format!("{input}: {error}{advice}").escape_debug().to_string();
                 told = told.and(writeln!(errors, "{}", line.replace("\\'", "'")));
