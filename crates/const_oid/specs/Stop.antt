@@ -29,7 +29,8 @@ error_at text stop =
 abbrev pub component_at : List ℕ → ℕ → ℕ
 component_at text place = count_by (λ b. nat_lt b 48) (take place text)
 
--- the text has the error at a capacity, and its wrong component is where the reading stops, unless its octets do not fit
+-- the text has the error at a capacity, and its wrong component is where the reading stops, unless its octets do not
+-- fit
 abbrev pub IsWrongAt : ℕ → List ℕ → Stop → Type 0
 IsWrongAt capacity text stop = (text_answer root_rule text capacity ≡ Err (error_at text stop))
     × (error_at text stop ≢ Length → component_at text stop.1 ≡ wrong_index [] (components_of text))

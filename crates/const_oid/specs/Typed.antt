@@ -43,8 +43,8 @@ word_of text = take_while is_in_word text
 abbrev pub begins_with : List ℕ → List ℕ → Bool
 begins_with start text = str_eq_ignore_ascii_case (take (length start) text) start
 
--- how many bytes the prefix of a text has: a dot, `OID.` or `urn:oid:` in any case, or a module and two colons; a module
--- is a word that begins with a letter
+-- how many bytes the prefix of a text has: a dot, `OID.` or `urn:oid:` in any case, or a module and two colons; a
+-- module is a word that begins with a letter
 abbrev pub prefix_of : List ℕ → ℕ
 prefix_of text =
     let word = word_of text in

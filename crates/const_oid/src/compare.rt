@@ -111,8 +111,8 @@ pub(crate) fn common_parts<'a>(octets: &'a [u8], others: &[u8]) -> &'a [u8]
     without_last_part(first_octets(octets, same + 1))
 }
 
-/// Whether names are the same, by their bytes. Words are compared first. Most that differ do so in the last one, also ignoring ASCII
-/// case, and else their bytes are compared.
+/// Whether names are the same, by their bytes. Words are compared first. Most that differ do so in the last one, also
+/// ignoring ASCII case, and else their bytes are compared.
 // erase: const
 pub(crate) fn is_same_name(a: &[u8], b: &[u8]) -> bool
     ensures { result ≡ str_eq_ignore_ascii_case a.now b.now }

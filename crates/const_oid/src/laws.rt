@@ -335,7 +335,8 @@ pub fn no_overflow()
     ensures items { (rule : RootRule) (capacity : ℕ) (items : List ℕ) → item_fault rule items capacity ≢ Some Overflow }
 {}
 
-/// Text that begins with a digit is parsed as dotted text, whatever the names are, and without blanks around it as it is.
+/// Text that begins with a digit is parsed as dotted text, whatever the names are, and without blanks around it as it
+/// is.
 pub fn no_name_begins_with_a_digit()
     ensures bare { (entries : Entries) (text : List ℕ) (capacity : ℕ) → IsTrue (begins_with_digit (bare text))
         → typed_answer entries text capacity ≡ text_answer root_rule (bare text) capacity }

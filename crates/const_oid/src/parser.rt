@@ -117,8 +117,8 @@ pub(crate) fn parse_inlined(
     }
 }
 
-/// Appends the octets of the components after the dot at `end`, if there is one, to the first `used` octets of a slice, if
-/// they fit a capacity, and returns how many there are.
+/// Appends the octets of the components after the dot at `end`, if there is one, to the first `used` octets of a slice,
+/// if they fit a capacity, and returns how many there are.
 // erase: const
 #[inline(always)]
 pub(crate) fn parse_later(

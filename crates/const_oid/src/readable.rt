@@ -11,10 +11,10 @@ use crate::typed::{bare, begins_with_digit};
 
 impl Tables<'_> {
     /// Whether each name is parsed as itself, alone and before arcs: then what these tables display of an identifier is
-    /// parsed as this identifier.
+    /// parsed as this identifier. [`Tables`] has an example.
     ///
-    /// A name that is not has a blank at an end or a prefix, begins with a digit, is empty, is `OID` in any case, is longer
-    /// than 255 bytes, or begins with another name, a dot and a digit.
+    /// A name that is not has a blank at an end or a prefix, begins with a digit, is empty, is `OID` in any case, is
+    /// longer than 255 bytes, or begins with another name, a dot and a digit.
     pub fn is_readable(&self) -> bool
         ensures plain { let entries = entries_in self.now in IsTrue result ↔ ArePlain entries entries }
         ensures readable { IsTrue result → AreReadable (entries_in self.now) }

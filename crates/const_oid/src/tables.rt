@@ -39,6 +39,7 @@ use std::fmt;
 /// assert_eq!((shown.to_string().as_str(), shown.text_len()), ("lamp.3", 6));
 /// assert_eq!((NAMES.by_name("Lamp"), NAMES.by_oid(&LAMP)), (Some(&LAMP), Some("lamp")));
 /// assert_eq!(shown.encode_text(&mut [0; 5]), None);
+/// assert!(NAMES.is_readable());
 /// # Ok::<(), const_oid::Error>(())
 /// ```
 #[derive(Copy, Clone)]
@@ -220,8 +221,8 @@ impl fmt::Display for Display<'_> {
     }
 }
 
-/// The entry with the longest prefix of an identifier in sorted tables, the first one in the first table that has it, or
-/// `None` if no table has a prefix.
+/// The entry with the longest prefix of an identifier in sorted tables, the first one in the first table that has it,
+/// or `None` if no table has a prefix.
 pub fn nearest_in<'a>(
     tables: &[SortedDatabase<'a>],
     oid: ObjectIdentifierRef<'_>,

@@ -220,8 +220,8 @@ CONST_OID_NODISCARD CONST_OID_READS(1, 2) CONST_OID_WRITES(3, 4) const_oid_statu
  * those of 1.3.6.1.4. For an empty text they are those that were given. Both may have any length. If the octets are
  * invalid, returns their code. If the text is, returns what const_oid_from_text does for the whole dotted text, but
  * counts components of this text from the one before its first dot, which is empty: it is the last arc of the octets.
- * So of ".3.x" the component 2 is wrong, and of "." it is 0, by TRAILING_DOT. A first byte that is not a dot is wrong at
- * 0, by DIGIT_EXPECTED.
+ * So of ".3.x" the component 2 is wrong, and of "." it is 0, by TRAILING_DOT. A first byte that is not a dot is wrong
+ * at 0, by DIGIT_EXPECTED.
  *
  * There are no more octets than those given and the bytes of the text, so an output of as many is long enough. */
 CONST_OID_NODISCARD CONST_OID_READS(1, 2) CONST_OID_READS(3, 4) CONST_OID_WRITES(5, 6) const_oid_status
@@ -239,8 +239,8 @@ const_oid_to_text_below(const uint8_t *octets, size_t len, const uint8_t *prefix
     char *CONST_OID_RESTRICT out, size_t out_len);
 
 /* Finds what people type without the ASCII whitespace around it, and then without a prefix: a dot, OID. or urn:oid:, in
- * any case, or a module and ::, which is a letter, and then letters, digits and hyphens. Stores where it is in the text,
- * of any bytes, and returns its length. */
+ * any case, or a module and ::, which is a letter, and then letters, digits and hyphens. Stores where it is in the
+ * text, of any bytes, and returns its length. */
 CONST_OID_NODISCARD CONST_OID_READS(1, 2) CONST_OID_NONNULL(3) const_oid_status const_oid_bare_text(
     const char *text, size_t text_len, const_oid_range *CONST_OID_RESTRICT range);
 

@@ -3861,8 +3861,8 @@ CONST_OID_NODISCARD CONST_OID_READS(1, 2) CONST_OID_INLINE const char *const_oid
     return index < CONST_OID_COMMON_NAMES_COUNT ? const_oid_common_name(index) : CONST_OID_NULL;
 }
 
-/* The octets of the longest name that a text begins with, at most 255 bytes, and where it ends: with the text, or before
- * a dot. Null with length 0 if none, as in text that begins with a digit. */
+/* The octets of the longest name that a text begins with, at most 255 bytes, and where it ends: with the text, or
+ * before a dot. Null with length 0 if none, as in text that begins with a digit. */
 CONST_OID_INLINE const_oid_octets const_oid_internal_longest_name(const char *text, size_t len, size_t *end) {
     const_oid_octets name = {CONST_OID_NULL, 0};
     *end = len < 256 ? len + 1 : 256;

@@ -56,8 +56,8 @@ pub record IsFaultAt (capacity : ℕ) (text : List ℕ) (fault : Error) (place :
   pub within : place ≤ length text
   pub component : fault ≢ Length → component_at text place ≡ wrong_index [] (components_of text)
 
--- the first fault of two texts joined, at a capacity, is that of the component at a place of the second one, whose first
--- component has an index in both
+-- the first fault of two texts joined, at a capacity, is that of the component at a place of the second one, whose
+-- first component has an index in both
 pub record IsFoundAfter (capacity : ℕ) (front : List ℕ) (offset : ℕ) (text : List ℕ) (fault : Error) (place : ℕ) : Type 0 where
   pub index : ℕ
   pub found : text_found capacity (front ++ text) ≡ Err (fault, index)

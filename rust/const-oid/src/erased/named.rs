@@ -14,7 +14,8 @@ impl Tables<'_> {
     ///
     /// - Around all of it there may be ASCII whitespace: blanks, tabs, line feeds, form feeds and carriage returns.
     /// - Then one prefix may come: `OID.` or `urn:oid:`, in any case, a dot, as `snmpwalk -On` prints, or a module and
-    ///   `::`, as in `IF-MIB::ifDescr.3`. A module is a letter, and then letters, digits and hyphens. It is not looked up.
+    ///   `::`, as in `IF-MIB::ifDescr.3`. A module is a letter, and then letters, digits and hyphens. It is not looked
+    ///   up.
     /// - What begins with a digit is dotted text.
     /// - Else it begins with a name, by [`by_name`](Self::by_name). A name may have dots: all of the text is tried, and
     ///   then what is before each dot, from the last one on, up to 255 bytes. After the first name that is found come
@@ -22,8 +23,8 @@ impl Tables<'_> {
     ///
     /// # Errors
     ///
-    /// Those of [`new_sized`](ObjectIdentifier::new_sized), of the text after the prefix, with the arcs of a name in its
-    /// place: `sysUpTime.` is [`Error::TrailingDot`](crate::Error::TrailingDot). A name that no table has is
+    /// Those of [`new_sized`](ObjectIdentifier::new_sized), of the text after the prefix, with the arcs of a name in
+    /// its place: `sysUpTime.` is [`Error::TrailingDot`](crate::Error::TrailingDot). A name that no table has is
     /// [`Error::DigitExpected`](crate::Error::DigitExpected), as in dotted text.
     pub const fn parse<const MAX_SIZE: usize>(&self, text: &str) -> Result<ObjectIdentifier<MAX_SIZE>> {
         let text = bare(text.as_bytes());

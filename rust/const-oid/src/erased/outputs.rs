@@ -58,8 +58,8 @@ pub fn bytes_from_arcs(arcs: &[Arc], out: &mut [u8]) -> Result<usize> {
     encode(arcs, out, capacity)
 }
 
-/// The length in bytes of the text that [`text_below`] writes, or `usize::MAX` if it is greater than that. 0 if the arcs do
-/// not begin with the prefix.
+/// The length in bytes of the text that [`text_below`] writes, or `usize::MAX` if it is greater than that. 0 if the
+/// arcs do not begin with the prefix.
 #[must_use]
 pub fn text_below_len(oid: &ObjectIdentifierRef, prefix: &ObjectIdentifierRef) -> usize {
     match oid.strip_prefix(prefix) {
@@ -68,9 +68,9 @@ pub fn text_below_len(oid: &ObjectIdentifierRef, prefix: &ObjectIdentifierRef) -
     }
 }
 
-/// Writes a dot and the decimal of each arc after those of a prefix to the start of `out`, and returns the length of this
-/// text in bytes. Returns `None` if it is longer than `out`, or if the arcs do not begin with the prefix; `out` is then
-/// unchanged.
+/// Writes a dot and the decimal of each arc after those of a prefix to the start of `out`, and returns the length of
+/// this text in bytes. Returns `None` if it is longer than `out`, or if the arcs do not begin with the prefix; `out` is
+/// then unchanged.
 #[must_use]
 pub fn text_below(oid: &ObjectIdentifierRef, prefix: &ObjectIdentifierRef, out: &mut [u8]) -> Option<usize> {
     text_len(oid.strip_prefix(prefix)?, false, out.len())?;
@@ -165,8 +165,8 @@ fn copy_if_room(octets: &[u8], out: &mut [u8], capacity: usize) {
     }
 }
 
-/// Decodes contents octets as [`from_bytes`](crate::ObjectIdentifierRef::from_bytes) does, writes their arcs to the start
-/// of `out` in the same pass, and returns how many there are.
+/// Decodes contents octets as [`from_bytes`](crate::ObjectIdentifierRef::from_bytes) does, writes their arcs to the
+/// start of `out` in the same pass, and returns how many there are.
 ///
 /// Returns `None` if `out` has no more arcs than there are octets; it is then unchanged. On `Ok`, what lies after the
 /// arcs is unchanged. On `Err`, `out` may be changed.

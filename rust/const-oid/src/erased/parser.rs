@@ -84,8 +84,8 @@ pub(crate) const fn parse_inlined(text: &[u8], out: &mut [u8], capacity: usize) 
     }
 }
 
-/// Appends the octets of the components after the dot at `end`, if there is one, to the first `used` octets of a slice, if
-/// they fit a capacity, and returns how many there are.
+/// Appends the octets of the components after the dot at `end`, if there is one, to the first `used` octets of a slice,
+/// if they fit a capacity, and returns how many there are.
 #[inline(always)]
 pub(crate) const fn parse_later(
     text: &[u8],

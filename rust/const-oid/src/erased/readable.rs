@@ -10,10 +10,10 @@ use crate::erased::typed::{bare, begins_with_digit};
 
 impl Tables<'_> {
     /// Whether each name is parsed as itself, alone and before arcs: then what these tables display of an identifier is
-    /// parsed as this identifier.
+    /// parsed as this identifier. [`Tables`] has an example.
     ///
-    /// A name that is not has a blank at an end or a prefix, begins with a digit, is empty, is `OID` in any case, is longer
-    /// than 255 bytes, or begins with another name, a dot and a digit.
+    /// A name that is not has a blank at an end or a prefix, begins with a digit, is empty, is `OID` in any case, is
+    /// longer than 255 bytes, or begins with another name, a dot and a digit.
     #[must_use]
     pub fn is_readable(&self) -> bool {
         for table in self.0 {
