@@ -35,9 +35,23 @@ pub(crate) const fn begins_with_digit(text: &[u8]) -> bool
     matches!(text, [b'0'..=b'9', ..])
 }
 
+/// How many bytes the prefix of a text has. One that begins with a digit has none.
+// erase: const
+#[tactic(auto, using(crate::proofs::BareTexts::no_prefix_before_digit))]
+fn prefix_len(text: &[u8]) -> usize
+    ensures prefix { result ≡ prefix_of text.now }
+    ensures within { result ≤ length text.now }
+{
+    if begins_with_digit(text) {
+        0
+    } else {
+        prefix_len_of_any(text)
+    }
+}
+
 /// How many bytes the prefix of a text has.
 // erase: const
-fn prefix_len(text: &[u8]) -> usize
+fn prefix_len_of_any(text: &[u8]) -> usize
     ensures prefix { result ≡ prefix_of text.now }
     ensures within { result ≤ length text.now }
 {

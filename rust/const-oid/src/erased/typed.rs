@@ -24,8 +24,13 @@ pub(crate) const fn begins_with_digit(text: &[u8]) -> bool {
     matches!(text, [b'0'..=b'9', ..])
 }
 
-/// How many bytes the prefix of a text has.
+/// How many bytes the prefix of a text has. One that begins with a digit has none.
 const fn prefix_len(text: &[u8]) -> usize {
+    if begins_with_digit(text) { 0 } else { prefix_len_of_any(text) }
+}
+
+/// How many bytes the prefix of a text has.
+const fn prefix_len_of_any(text: &[u8]) -> usize {
     let end = word_len(text);
     let (word, rest) = text.split_at(end);
     if begins_with(b".", rest) && (word.is_empty() || is_same_name(word, b"OID")) {
