@@ -46,7 +46,7 @@ static size_t count;
 static void read_words(const char *rest) {
     static uint8_t octets[LINE];
     uint8_t *to = octets;
-    items[0] = (const_oid_octets){octets, 0};
+    items[0] = items[1] = (const_oid_octets){octets, 0};
     for (count = 0; *rest != 0; count++) {
         size_t len = strcspn(rest, " ");
         SEE(count < MOST, line);
@@ -77,9 +77,12 @@ static int is_ok(const_oid_status status) {
     return 0;
 }
 
+static void say_hex(const_oid_octets of) {
+    for (size_t i = 0; i < of.len; i++) say("%02X", of.octets[i]);
+}
+
 static void say_octets(const_oid_status status, const uint8_t *octets) {
-    if (!is_ok(status)) return;
-    for (size_t i = 0; i < status.len; i++) say("%02X", octets[i]);
+    if (is_ok(status)) say_hex((const_oid_octets){octets, status.len});
 }
 
 static void say_text(const_oid_status status) {
@@ -195,19 +198,53 @@ static void order_row(comparison *compared_by) {
 /* Whether a row asks tables of names that are not here. A compiler that includes const_oid_common_names.h before all of
  * this has those of the header. */
 static int is_left(const char *call) {
-    if (IS("names") || IS("entry") || IS("nearest")) return 1;
+    if (IS("names")) return 1;
 #ifdef CONST_OID_COMMON_NAMES_H
     return 0;
 #else
-    return IS("parse") || IS("parse_bytes") || IS("display");
+    return IS("entry") || IS("parse") || IS("parse_bytes") || IS("display") || IS("nearest");
 #endif
 }
+
+typedef const_oid_status reading(const char *, size_t, uint8_t *, size_t);
+
+/* Whether a text is wrong in any room. In a short output too, the library looks for an error in the whole text. */
+static int is_wrong;
+
+/* Says the octets of a text, and keeps what is past their room. */
+static void read_row(reading *read, const char *bytes, size_t len, size_t room) {
+    is_wrong = read(bytes, len, out, MOST).code != CONST_OID_OK;
+    out[room] = 0xAA;
+    say_octets(read(bytes, len, out, room), out);
+    SEE(out[room] == 0xAA, line);
+}
+
+#ifdef CONST_OID_COMMON_NAMES_H
+static const_oid_octets common[CONST_OID_COMMON_NAMES_COUNT];
+
+/* Says the octets of a name and the name of octets. */
+static void entry_row(const char *name) {
+    say_hex(const_oid_from_name(name));
+    say(" %s", const_oid_to_name(OCTETS(1)));
+}
+
+/* Says the octets and the name of the nearest entry, by a search in each table. Past a table's end are no octets. */
+static void nearest_row(void) {
+    const const_oid_status first = const_oid_nearest(OCTETS(0), const_oid_name_octets, CONST_OID_NAMES_COUNT);
+    const const_oid_status second = const_oid_nearest(OCTETS(0), common, CONST_OID_COMMON_NAMES_COUNT);
+    const const_oid_octets a = const_oid_name_octets[first.len], b = const_oid_common_octets(second.len);
+    const int is_second = a.len < b.len;
+    if (!is_ok(is_second ? second : first)) return;
+    say_hex(is_second ? b : a);
+    say(" %s", is_second ? const_oid_common_name(second.len) : const_oid_names[first.len]);
+}
+#endif
 
 static void answer(const char *call, const char *rest) {
     const char *second = rest + strcspn(rest, " ");
     second += *second == ' ';
     if (IS("text")) say_octets(const_oid_from_text(rest, strlen(rest), out, MOST), out);
-    else if (IS("text_in")) say_octets(const_oid_from_text(second, strlen(second), out, numbers[0]), out);
+    else if (IS("text_in")) read_row(const_oid_from_text, second, strlen(second), numbers[0]);
     else if (IS("component")) component_row(rest);
     else if (IS("bytes")) say_octets(const_oid_from_text((const char *)items[0].octets, items[0].len, out, MOST), out);
     else if (IS("octets")) octets_row();
@@ -230,8 +267,11 @@ static void answer(const char *call, const char *rest) {
     else if (IS("borrowed_order")) order_row(const_oid_cmp);
     else if (IS("by_arcs_order")) order_row(const_oid_cmp_arcs);
 #ifdef CONST_OID_COMMON_NAMES_H
-    else if (IS("parse")) say_octets(const_oid_parse(second, strlen(second), out, numbers[0]), out);
+    else if (IS("parse")) read_row(const_oid_parse, second, strlen(second), numbers[0]);
+    else if (IS("parse_bytes")) read_row(const_oid_parse, (const char *)items[1].octets, items[1].len, numbers[0]);
     else if (IS("display")) say_text(const_oid_display(OCTETS(0), text, sizeof text));
+    else if (IS("nearest")) nearest_row();
+    else if (IS("entry")) entry_row(strchr(second, ' ') + 1);
 #endif
     else say("no such call");
 }
@@ -239,6 +279,9 @@ static void answer(const char *call, const char *rest) {
 int main(void) {
     static char read[LINE], row[LINE];
     size_t rows = 0, wrong = 0;
+#ifdef CONST_OID_COMMON_NAMES_H
+    for (size_t i = 0; i < CONST_OID_COMMON_NAMES_COUNT; i++) common[i] = const_oid_common_octets(i);
+#endif
     while (fgets(read, sizeof read, stdin) != NULL) {
         line++;
         read[strcspn(read, "\r\n")] = 0;
@@ -256,13 +299,11 @@ int main(void) {
         if (*rest == ' ') *rest++ = 0;
         if (is_left(row)) continue;
         said_len = 0;
+        is_wrong = 0;
         read_words(rest);
         answer(row, rest);
         if (said_len == strlen(wanted) && memcmp(said, wanted, said_len) == 0) continue;
-        /* In a short output too, the library looks for an error in the whole text: these end with one. */
-        int is_text = strcmp(row, "text_in") == 0 || strcmp(row, "parse") == 0;
-        int ends_wrong = is_text && strchr(".x", rest[strlen(rest) - 1]) != NULL;
-        if (ends_wrong && strstr(wanted, "length") && strncmp(said, "error", 5) == 0) continue;
+        if (is_wrong && strcmp(wanted, "error: OID length invalid") == 0 && strncmp(said, "error", 5) == 0) continue;
         wrong++;
         printf("line %zu: %s, and not %.*s\n", line, read, (int)said_len, said);
     }

@@ -8,11 +8,19 @@ mod relations;
 mod typed;
 
 use anyhow::{Context, Result};
+use const_oid::db::SortedDatabase;
 use const_oid::tables::Tables;
 use const_oid::{Arc, ObjectIdentifierRef};
 use std::alloc::Global;
 use std::io::{BufRead, BufReader};
 use std::str;
+
+/// The tables of names that rows ask, and those in the order of arcs.
+#[derive(Clone, Copy)]
+struct Names<'a, 'b> {
+    tables: Tables<'a>,
+    sorted: &'b [SortedDatabase<'b>],
+}
 
 /// A row with `COUNT` units for each `{UNIT*COUNT}`.
 fn expanded(alloc: Global, row: &str) -> Result<String> {
@@ -56,7 +64,7 @@ fn items(alloc: Global, input: &str) -> Result<Vec<Vec<u8>>> {
 /// The result of a row that begins with octets.
 fn of_octets(
     alloc: Global,
-    tables: Tables<'_>,
+    names: Names<'_, '_>,
     call: &str,
     octets: &[u8],
     rest: &str,
@@ -73,7 +81,8 @@ fn of_octets(
         "child" => relations::child(alloc, octets, rest.parse()?),
         "list" => relations::list(alloc, octets, &items(alloc, rest)?),
         "names" => relations::names(alloc, octets, &words(alloc, rest)?),
-        "display" => typed::display(alloc, tables, octets),
+        "display" => typed::display(alloc, names.tables, octets),
+        "nearest" => typed::nearest(alloc, names.sorted, octets),
         _ => {
             let word = relations::pair(call, octets, &hex::decode(alloc, rest.as_bytes())?)?;
             Ok(String::from_str(alloc, word)?)
@@ -82,7 +91,7 @@ fn of_octets(
 }
 
 /// The result of a row of one identifier or of a list.
-fn of_one(alloc: Global, tables: Tables<'_>, call: &str, input: &str) -> Result<String> {
+fn of_one(alloc: Global, names: Names<'_, '_>, call: &str, input: &str) -> Result<String> {
     let (first, rest) = input.split_once(' ').unwrap_or((input, ""));
     match call {
         "text" => identifiers::text(alloc, input),
@@ -96,13 +105,13 @@ fn of_one(alloc: Global, tables: Tables<'_>, call: &str, input: &str) -> Result<
         "sorted" => relations::sorted(alloc, &items(alloc, input)?),
         "entry" => {
             let (octets, name) = rest.split_once(' ').context("no name")?;
-            typed::names(alloc, tables, octets, name)
+            typed::names(alloc, names.tables, octets, name)
         }
-        "parse" => typed::parse(alloc, tables, first.parse()?, rest),
-        "parse_bytes" => typed::parse_bytes(alloc, tables, first.parse()?, rest),
+        "parse" => typed::parse(alloc, names.tables, first.parse()?, rest),
+        "parse_bytes" => typed::parse_bytes(alloc, names.tables, first.parse()?, rest),
         _ => of_octets(
             alloc,
-            tables,
+            names,
             call,
             &hex::decode(alloc, first.as_bytes())?,
             rest,
@@ -111,7 +120,7 @@ fn of_one(alloc: Global, tables: Tables<'_>, call: &str, input: &str) -> Result<
 }
 
 /// The result of a row. What the library for C alone has, an order or an error, is left to it, as `None`.
-fn answer(alloc: Global, tables: Tables<'_>, call: &str, input: &str) -> Result<Option<String>> {
+fn answer(alloc: Global, names: Names<'_, '_>, call: &str, input: &str) -> Result<Option<String>> {
     match (call, call.strip_suffix("_order")) {
         ("items_order", _) => Ok(None),
         ("error", _) => identifiers::error(alloc, &arcs(alloc, input)?),
@@ -119,15 +128,15 @@ fn answer(alloc: Global, tables: Tables<'_>, call: &str, input: &str) -> Result<
             let word = relations::in_order(call, &items(alloc, input)?)?;
             Ok(Some(String::from_str(alloc, word)?))
         }
-        _ => Ok(Some(of_one(alloc, tables, call, input)?)),
+        _ => Ok(Some(of_one(alloc, names, call, input)?)),
     }
 }
 
 /// A row's result, if the row has none or another one.
-fn said(alloc: Global, tables: Tables<'_>, row: &str) -> Result<Option<String>> {
+fn said(alloc: Global, names: Names<'_, '_>, row: &str) -> Result<Option<String>> {
     let (question, expected) = row.split_once(" = ").unwrap_or((row, ""));
     let (call, input) = question.split_once(' ').unwrap_or((question, ""));
-    let said = match answer(alloc, tables, call, input) {
+    let said = match answer(alloc, names, call, input) {
         Ok(said) => said,
         Err(error) => Some(format!(in alloc; "error: {error}")?),
     };
@@ -148,8 +157,15 @@ fn main(rt: HostRuntime) -> Result<()> {
     let second = typed::lent(rt.alloc(), &second)?;
     let mut memory = Vec::new(rt.alloc());
     let tables = typed::indexed(rt.alloc(), &first, &second, &mut memory)?;
+    let first_in_order = typed::in_order(rt.alloc(), &first)?;
+    let second_in_order = typed::in_order(rt.alloc(), &second)?;
+    let sorted = typed::sorted(rt.alloc(), &first_in_order, &second_in_order)?;
+    let names = Names {
+        tables: Tables(&tables),
+        sorted: &sorted,
+    };
     for row in &rows {
-        if let Some(said) = said(rt.alloc(), Tables(&tables), row)? {
+        if let Some(said) = said(rt.alloc(), names, row)? {
             println!(rt; "{row} = {said}")?;
         }
     }

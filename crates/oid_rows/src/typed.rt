@@ -2,8 +2,8 @@
 
 use crate::identifiers::digits;
 use anyhow::{Context, Result, bail, ensure};
-use const_oid::db::Database;
-use const_oid::tables::Tables;
+use const_oid::db::{Database, SortedDatabase};
+use const_oid::tables::{Tables, nearest_in};
 use const_oid::{ObjectIdentifierRef, Oid};
 use std::alloc::Global;
 use std::str;
@@ -55,6 +55,31 @@ pub fn indexed<'a>(
     Ok(tables)
 }
 
+/// Entries in the order of arcs, those of an identifier as they come.
+pub fn in_order<'a>(
+    alloc: Global,
+    entries: &[(&'a Oid, &'a str)],
+) -> Result<Vec<(ObjectIdentifierRef<'a>, &'a str)>> {
+    let mut in_order: Vec<(ObjectIdentifierRef<'a>, &'a str)> = Vec::new(alloc);
+    for (oid, name) in entries {
+        in_order.push((oid.as_oid_ref(), *name))?;
+    }
+    in_order.sort_by(|left, right| left.0.cmp_arcs(&right.0))?;
+    Ok(in_order)
+}
+
+/// Tables of entries in the order of arcs.
+pub fn sorted<'a>(
+    alloc: Global,
+    first: &'a [(ObjectIdentifierRef<'a>, &'a str)],
+    second: &'a [(ObjectIdentifierRef<'a>, &'a str)],
+) -> Result<Vec<SortedDatabase<'a>>> {
+    let mut tables = Vec::new(alloc);
+    tables.push(SortedDatabase::try_new(first).context("not in order")?)?;
+    tables.push(SortedDatabase::try_new(second).context("not in order")?)?;
+    Ok(tables)
+}
+
 /// The octets that a name has in the first table that has it, and the name of octets.
 pub fn names(alloc: Global, tables: Tables<'_>, octets: &str, name: &str) -> Result<String> {
     let oid = Oid::from_bytes(&hex::decode(alloc, octets.as_bytes())?)?;
@@ -97,4 +122,12 @@ pub fn display(alloc: Global, tables: Tables<'_>, octets: &[u8]) -> Result<Strin
     let mut out = vec![in alloc; 0; shown.text_len()]?;
     ensure!(shown.encode_text(&mut out) == Some(text.len()) && text.as_bytes() == out.as_slice());
     Ok(text)
+}
+
+/// The octets and the name of the entry with the longest prefix of octets in sorted tables, or `none`.
+pub fn nearest(alloc: Global, tables: &[SortedDatabase<'_>], octets: &[u8]) -> Result<String> {
+    match nearest_in(tables, ObjectIdentifierRef::from_bytes(octets)?) {
+        Some((oid, name)) => Ok(format!(in alloc; "{} {name}", digits(alloc, *oid)?)?),
+        None => Ok(String::from_str(alloc, "none")?),
+    }
 }
