@@ -936,7 +936,7 @@ static PyMethodDef table_methods[] = {
 };
 
 static PyType_Slot table_slots[] = {
-    {Py_tp_doc, "Table(entries=())\n--\n\nEntries in the order of arcs: see SortedMap."},
+    {Py_tp_doc, "SortedMap(entries=())\n--\n\nEntries in the order of arcs: see SortedMap."},
     {Py_tp_init, (void *)table_init}, {Py_tp_dealloc, (void *)table_dealloc},
     {Py_tp_traverse, (void *)table_traverse}, {Py_tp_clear, (void *)table_clear_all},
     {Py_tp_iter, (void *)table_iter}, {Py_sq_contains, (void *)table_contains}, {Py_mp_length, (void *)table_len},
@@ -947,7 +947,7 @@ static PyType_Slot table_slots[] = {
 
 /* Its module is the one that doctest looks for examples in. */
 static PyType_Spec table_spec = {
-    "const_oid.sorted_map.Table", sizeof(Table), 0,
+    "const_oid.sorted_map.SortedMap", sizeof(Table), 0,
     Py_TPFLAGS_DEFAULT | Py_TPFLAGS_BASETYPE | Py_TPFLAGS_HAVE_GC | Py_TPFLAGS_IMMUTABLETYPE, table_slots,
 };
 
@@ -957,5 +957,5 @@ int add_tables(PyObject *module) {
     OWNED *walk = PyType_FromModuleAndSpec(module, &walk_spec, NULL);
     OWNED *attributes = table ? PyObject_GenericGetDict(table, NULL) : NULL;
     if (!walk || !attributes || PyDict_SetItemString(attributes, "_Walk", walk)) return -1;
-    return PyModule_AddType(module, (PyTypeObject *)table);
+    return PyModule_AddObjectRef(module, "Table", table);
 }

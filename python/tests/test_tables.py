@@ -2,6 +2,7 @@
 import collections
 import concurrent.futures
 import copy
+import copyreg
 import ctypes
 import gc
 import importlib
@@ -132,6 +133,7 @@ CALLS = CHANGES | {name: lambda table, key, _, name=name: getattr(table, name)(k
 CALLS["iter"] = lambda table, *_: len([*table])
 MET = [*itertools.product(CALLS, CHANGES), *itertools.product(CHANGES, CHANGES, [*CHANGES][::2])]
 CALLS["|"] = lambda table, key, new: [table | {key(3): new(), key(4): new()}, {key(5): new(), key(6): new()} | table]
+CALLS["update of one twice"] = lambda table, key, new: table.update(zip(map(key, (1, 1, 3, 5, 7)), iter(new, None)))
 MOST = [name for name in CALLS if name not in ("clear", "init")]
 STEP = [int]  # what is called where a value ends
 
@@ -232,6 +234,32 @@ OWN = "__eq__ __ne__ __lt__ __gt__ __le__ __ge__ __hash__ __bytes__ __len__ __it
 Own = type("Own", (ObjectIdentifier,), dict.fromkeys(OWN, own))
 OwnMap = type("OwnMap", (SortedMap,), {"__setitem__": own, "__delitem__": own})
 
+# Calls of a map, or of a dict, of a subclass: those that make copies, and all.
+COPYING = {"copy()": lambda one: [one.copy()], "|": lambda one: [one | {}, {} | one]}
+COPYING |= {"copy": lambda one: [copy.copy(one)], "copies": lambda one: copies_of(one, range(2, 6))}
+OF_DICT = {name: lambda one, call=call: call(one, KEYS.__getitem__, int) for name, call in CALLS.items()} | COPYING
+OF_DICT |= {call.__name__: call for call in (len, list, repr, reversed)} | {"==": lambda one: one == {KEYS[2]: 2}}
+OF_DICT |= {name: lambda one, name=name: [*getattr(one, name)()] for name in ("keys", "values", "items")}
+OF_DICT |= {f"back, {name}": lambda one, name=name: [*reversed(getattr(one, name)())] for name in ("values", "items")}
+OF_DICT |= {"fromkeys": lambda one: type(one).fromkeys(KEYS), "all": lambda one: type(one).__base__(one)}
+for name in ("nearest", "next_after", "subtree"):
+    del OF_DICT[name]
+# Methods that only one of both calls where a subclass has them: copies of a map have its class, state and entries.
+OWN_OF_ONE = {*itertools.product(("__getstate__", "__new__"), ("copy()", "|")), ("items", "copy"), ("items", "copies")}
+# What a subclass makes of itself for copies and pickles, with entries in other places, or without them.
+REDUCED = {
+    "nothing": lambda one: (type(one), ()),
+    "arguments": lambda one: (type(one), ({KEYS[1]: 5},)),
+    "a state": lambda one: (type(one), (), {"x": 5}),
+    "entries": lambda one: (type(one), (), {"x": 5}, None, iter([(KEYS[1], 5)])),
+    "items of a list": lambda one: (type(one), (), None, iter([5, 6])),
+    "another type": lambda one: (list, ([5],)),
+    "a name": lambda one: "Kind",
+    "more than copies take": lambda one: (type(one), (), {"x": 5}, None, None, lambda made, state: None),
+    "all": lambda one: super(type(one), one).__reduce__(),
+    "all, with a state": lambda one: (*super(type(one), one).__reduce__()[:2], {"x": 5}),
+}
+
 
 class Sorted(unittest.TestCase):
     def test_drawn_maps_do_what_the_model_does(self):
@@ -261,11 +289,19 @@ class Sorted(unittest.TestCase):
         self.assertEqual((Attributes, {oid: [1]}, ()), (type(made), made, made.given))
         table[oid.child(1)] = table
         self.assertEqual(f"SortedMap({{{oid!r}: 1, {oid.child(1)!r}: {{...}}}})", repr(table))
+        for view in (dict.keys, dict.values, dict.items):
+            shown, views = {oid: 1}, getattr(table := SortedMap({oid: 1}), view.__name__)
+            shown[oid.child(1)], table[oid.child(1)] = view(shown), views()
+            self.assertEqual(repr(view(shown)).replace("dict", "SortedMap"), repr(views()))
         self.assertNotIn(SortedMap({oid: Own("2.5")}), [{KEYS[0]: Own("2.5")}, {mock.Mock(spec=oid): 1}])
         walk, table = iter(bare := SortedMap.__new__(SortedMap)), SortedMap.fromkeys(KEYS)
         found = [*readings(bare)], bare.clear(), [*walk], bare.update(table) or bare
         self.assertEqual(([[]] * 7, None, [], table), found)
         self.assertEqual((KEYS[::-1], None, {}), ([*reversed(table)], bare.clear(), bare))
+        for kind in (dict, SortedMap):
+            one, nan = kind({oid: None}), float("nan")
+            found = one.setdefault(oid, 1), kind({oid: nan}) == {oid: nan}, kind({oid: nan}) == {oid: -nan}
+            self.assertEqual((None, True, False), found)
         given = type("Others", (dict,), {"__iter__": None, "keys": lambda _: KEYS[:2]})(dict(zip(KEYS, range(3))))
         self.assertEqual(dict(given), SortedMap(given))
 
@@ -288,14 +324,47 @@ class Sorted(unittest.TestCase):
         self.assertIs((again := copy.deepcopy(table)), again.name)
         self.assertEqual(({one: [1]}, [one, other], None), (source, list(table), table.clear()))
         self.assertEqual((table, {}), (table.name, table))
-        for state in ({}, {"__getstate__": lambda _: {"x": 5}, "__setstate__": lambda table, x: vars(table).update(x)}):
-            vars(table := type("Kind", (SortedMap,), {"__setattr__": None, **state})(source))["x"] = 5
+        ways = [{}, {"__getstate__": lambda _: {"x": 5}, "__setstate__": lambda table, x: vars(table).update(x)}]
+        new = {"__new__": lambda kind, given: object.__new__(kind)}
+        ways += [{"__getstate__": lambda table: (vars(table), None)}, {**new, "__getnewargs__": lambda _: (1,)}]
+        for way in (*ways, {**new, "__getnewargs_ex__": lambda _: ((), {"given": 1})}):
+            vars(table := type("Kind", (SortedMap,), {"__setattr__": None, **way})(source))["x"] = 5
             made = table.copy(), copy.copy(table), table | {}, copy.deepcopy(table)
             self.assertEqual(4 * [(source, {"x": 5})], [(one, vars(one)) for one in made])
         # Of version 1.5.0, by protocol 0, which makes the map by object.__new__.
         old = b"ccopy_reg\n_reconstructor\n(cconst_oid.sorted_map\nSortedMap\nc__builtin__\nobject\nNtR(N(dV_values\n("
         old += b"dcconst_oid._native\nrestored\n(c_codecs\nencode\n(VU\nVlatin1\ntRtRI1\nsstb."
         self.assertEqual("SortedMap({ObjectIdentifier('2.5'): 1})", repr(pickle.loads(old)))
+
+    def test_copies_are_as_a_subclass_of_dict_makes_them(self):
+        """By its own __reduce__ or a reductor of copyreg, which may leave entries out. All are in copy() and |."""
+        for way, (name, reduce) in itertools.product(("__reduce__", "__reduce_ex__", "copyreg"), REDUCED.items()):
+            found = []
+            for base in (dict, SortedMap):
+                methods = {"extend": lambda one, items: setattr(one, "x", items), way: lambda one, *_: reduce(one)}
+                kind = type("Kind", (base,), {"__module__": __name__, **methods})
+                reductors = mock.patch.dict(copyreg.dispatch_table, {kind: reduce} if way == "copyreg" else {})
+                with reductors, mock.patch.dict(globals(), Kind=kind):
+                    for call in COPYING.values():
+                        one, made = kind({KEYS[2]: 2}), []
+                        error = error_of(lambda: made.extend(call(one)))
+                        found.append([type(error), *((plain(copied), getattr(copied, "x", None)) for copied in made)])
+            self.assertEqual(found[: len(COPYING)], found[len(COPYING) :], (way, name))
+
+    def test_methods_are_called_as_those_of_a_subclass_of_dict(self):
+        """Of those that a subclass has of its own. Names that dict does not have are free."""
+        names = {name for kind in (dict, SortedMap) for name, _ in inspect.getmembers(kind, inspect.isroutine)}
+        differ = set()
+        for name in names - {"__getattribute__", "__subclasshook__"} | {"_flat", "_walk"}:
+            errors = []
+            for base in (dict, SortedMap):
+                kind = type("Kind", (base,), {"__module__": __name__})
+                given = [kind({KEYS[2]: 2}) for _ in OF_DICT]
+                setattr(kind, name, own)
+                with mock.patch.dict(globals(), Kind=kind):
+                    errors.append([type(error_of(*called)) for called in zip(OF_DICT.values(), given)])
+            differ |= {(name, call) for call, one, other in zip(OF_DICT, *errors) if one is not other}
+        self.assertEqual(OWN_OF_ONE, differ)
 
     def test_a_change_ends_an_iteration(self):
         """Keys that come or go are an error at each next step, also after the last key. Other values are none."""
@@ -358,14 +427,16 @@ class Sorted(unittest.TestCase):
 
     def test_a_reading_is_of_one_moment(self):
         """It runs no code of Python once it has begun: functions change the map where they are called and return."""
-        reads = [dict, SortedMap.fromkeys, repr, copy.copy, OwnMap.copy, lambda one: mock.MagicMock() in one.values()]
+        reads = [dict, SortedMap.fromkeys, repr, copy.copy, SortedMap.copy, lambda one: mock.MagicMock() in one.values()]
         reads += [lambda table: {**table}, lambda table: [*table.items()], lambda table: [*table.__reduce_ex__(4)[4]]]
-        for kind, read in itertools.product((SortedMap, OwnMap), [*reads, SortedMap(zip(KEYS, KEYS)).__eq__]):
+        for kind, read in itertools.product((SortedMap, Attributes), [*reads, SortedMap(zip(KEYS, KEYS)).__eq__]):
             table, key = kind(zip(KEYS, KEYS)), ObjectIdentifier("2.9")
             sys.setprofile(lambda *_: (SortedMap.update(table, {key: 1}), SortedMap.pop(table, key)))
             found = error_of(read, table)
             sys.setprofile(None)
             self.assertIs(found, None, read)
+        taking = type("Taking", (SortedMap,), {"__setitem__": lambda _, key, value: table.pop(key)})
+        self.assertEqual((None, {}), (error_of(taking.fromkeys, table), table))
 
     def test_threads_and_signals_change_a_map(self):
         """Each thread, and a handler of signals, has keys of its own, which are there until it removes them."""
@@ -443,6 +514,7 @@ class Sorted(unittest.TestCase):
             self.assertEqual([*given], [*inspect.signature(call := getattr(table, name)).parameters])
             errors = error_of(lambda: call(**given, other=1)), error_of(call, *given.values(), 1)
             self.assertEqual([TypeError] * 2, [*map(type, errors)])
+            self.assertEqual(f"SortedMap.{name}", getattr(SortedMap, name).__qualname__)  # in errors
             if name != "update":
                 self.assertEqual(getattr(table.copy(), name)(*given.values()), call(**given))
         self.assertEqual((["entries"], table), ([*inspect.signature(SortedMap).parameters], SortedMap(entries=table)))

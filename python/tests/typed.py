@@ -1,7 +1,7 @@
 """The types that the package declares, for mypy --strict; `uses` runs, too."""
 import copy
 from collections.abc import Iterable, Iterator, Sequence
-from typing import assert_type
+from typing import Any, assert_type
 
 from const_oid import Code, ObjectIdentifier, OidError, SortedMap, __version__, names
 
@@ -45,6 +45,8 @@ def uses() -> None:
     assert_type((table.subtree(oid), [*reversed(table.items())]), tuple[list[Entry], list[Entry]])
     assert_type((list(table), [*reversed(table.values())]), tuple[list[ObjectIdentifier], list[str]])
     assert_type((SortedMap.fromkeys([oid], 0), table.get(oid)), tuple[SortedMap[int], str | None])
+    bare = SortedMap.fromkeys([oid])
+    assert_type((bare, dict.fromkeys([oid])), tuple[SortedMap[Any | None], dict[ObjectIdentifier, Any | None]])
     assert_type((names.name_of(oid), names.names_of(oid), names.display(oid)), tuple[str | None, tuple[str, ...], str])
     assert_type((names.parse("cn"), names.by_name("cn")), tuple[ObjectIdentifier, ObjectIdentifier | None])
     entries: Iterable[Entry] = names.entries() + names.common_entries()

@@ -1,13 +1,11 @@
 """A mapping that is sorted by arcs."""
 
-import copy
 import copyreg
 from collections.abc import Callable, ItemsView, Iterable, Iterator, KeysView, Mapping, MutableMapping, ValuesView
 from functools import partial
 from itertools import chain
 from reprlib import recursive_repr
-from types import SimpleNamespace
-from typing import Any, Self, TypeVar, cast
+from typing import Any, Self, TypeVar, cast, overload
 
 from ._native import ObjectIdentifier, Table
 
@@ -39,90 +37,88 @@ class SortedMap(Table[Value], MutableMapping[ObjectIdentifier, Value]):
         >>> table.copy() == table, table.copy() is table
         (True, False)
         """
-        return cast(Self, SortedMap(self)) if type(self) is SortedMap else copy.copy(self)
+        return _made(self, self)
 
+    @overload
     @classmethod
-    def fromkeys(cls, keys: Iterable[ObjectIdentifier], value: Other = None) -> "SortedMap[Other]":  # type: ignore
+    def fromkeys(cls, keys: Iterable[ObjectIdentifier], value: None = None) -> "SortedMap[Any | None]": ...
+    @overload
+    @classmethod
+    def fromkeys(cls, keys: Iterable[ObjectIdentifier], value: Other) -> "SortedMap[Other]": ...
+    @classmethod
+    def fromkeys(cls, keys: Iterable[ObjectIdentifier], value: Any = None) -> "SortedMap[Any]":
         """A map of keys that all have one value.
 
         >>> SortedMap.fromkeys([ObjectIdentifier("2.5")], 1)
         SortedMap({ObjectIdentifier('2.5'): 1})
         """
-        made = cast("SortedMap[Other]", cls())
+        made = cast(SortedMap[Any], cls())
         for key in [*keys]:
             made[key] = value
         return made
 
-    def keys(self) -> "_Keys":
+    def keys(self) -> "SortedMap_keys":
         """The keys in order, in a view that can be reversed, as those of values() and items() can.
 
         >>> list(reversed(SortedMap.fromkeys([ObjectIdentifier("2.5")]).keys()))
         [ObjectIdentifier('2.5')]
         """
-        return _view(_Keys(self), super().__len__, super().__iter__, super().__reversed__)
+        return _view(SortedMap_keys(self), super().__len__, super().__iter__, super().__reversed__)
 
-    def values(self) -> "_Values[Value]":
+    def values(self) -> "SortedMap_values[Value]":
         """The values in the order of keys.
 
         >>> list(SortedMap.fromkeys([ObjectIdentifier("2.5")], 1).values())
         [1]
         """
-        return _view(_Values(self), super().__len__, partial(self._walk, 1), partial(self._walk, 4))
+        return _view(SortedMap_values(self), super().__len__, partial(super()._walk, 1), partial(super()._walk, 4))
 
-    def items(self) -> "_Items[Value]":
+    def items(self) -> "SortedMap_items[Value]":
         """The entries in the order of keys.
 
         >>> list(SortedMap.fromkeys([ObjectIdentifier("2.5")], 1).items())
         [(ObjectIdentifier('2.5'), 1)]
         """
-        return _view(_Items(self), super().__len__, partial(self._walk, 2), partial(self._walk, 5))
+        return _view(SortedMap_items(self), super().__len__, partial(super()._walk, 2), partial(super()._walk, 5))
 
     def __eq__(self, other: object) -> bool:
         if not isinstance(other, Mapping):
             return NotImplemented
-        if len(self) != len(other) or False in [issubclass(type(key), ObjectIdentifier) for key in [*other]]:
+        if super().__len__() != len(other) or False in [issubclass(type(key), ObjectIdentifier) for key in [*other]]:
             return False
-        ours, others = self._flat(), SortedMap(other)._flat()
+        ours, others = _flat(self), _flat(SortedMap(other))
         return all(map(ObjectIdentifier.__eq__, ours[::2], others[::2])) and ours[1::2] == others[1::2]
 
     def __or__(self, other: Mapping[Key, Value]) -> Self:
-        return self.copy().__ior__(other) if isinstance(other, Mapping) else NotImplemented
+        return _made(self, self, other) if isinstance(other, Mapping) else NotImplemented
 
     def __ror__(self, other: Mapping[Key, Value]) -> Self:
-        return self.copy().__ior__(SortedMap(other).__ior__(self)) if isinstance(other, Mapping) else NotImplemented
+        return _made(self, other, self) if isinstance(other, Mapping) else NotImplemented
 
     def __ior__(self, other: Mapping[Key, Value] | Iterable[tuple[ObjectIdentifier, Value]]) -> Self:
-        self.update(other)
+        super().update(other)
         return self
 
     @recursive_repr("{...}")
     def __repr__(self) -> str:
-        flat = self._flat()
+        flat = _flat(self)
         entries = ", ".join(map("{!r}: {!r}".format, flat[::2], flat[1::2]))
         return f"{type(self).__name__}({{{entries}}})"
 
-    def _flat(self) -> list[Any]:
-        """All keys and values in turn, as of one moment."""
-        return [*chain.from_iterable([*SortedMap.items(self)])]
-
-    def __getstate__(self) -> Any:
-        return cast(Any, super()).__getstate__()  # by that of object, __reduce_ex__ would take no map
+    def __reduce__(self) -> Any:
+        """As of a dict: a subclass that calls it has the entries among the arguments."""
+        new, arguments, state = _start(self)
+        return _filled, (new, arguments, [*SortedMap.items(self)]), state
 
     def __reduce_ex__(self, protocol: Any) -> Any:
         """As of a dict: entries are no part of the state, which a subclass may make and take by methods of its own."""
-        parts: Any = super().__reduce_ex__(max(2, protocol))
-        return (*parts[:4], iter([*SortedMap.items(self)])) if parts[4:] == (None,) else parts
-
-    def __copy__(self) -> Self:
-        reductor: Any = copyreg.dispatch_table.get(type(self))
-        parts = reductor(self) if reductor else self.__reduce_ex__(4)
-        source: Any = SimpleNamespace(__reduce_ex__=lambda _: parts[:3])
-        made = self if isinstance(parts, str) else cast(Self, copy.copy(source))
-        Table.update(made, self if len(parts) == 5 else ())  # which calls no __setitem__ of a subclass
-        return made
+        if type(self).__reduce__ is not SortedMap.__reduce__:
+            return self.__reduce__()
+        return *_start(self), None, iter([*SortedMap.items(self)])
 
     def __setstate__(self, state: Any) -> None:
-        attributes, slots = state if isinstance(state, tuple) else (state, {})
+        attributes, slots = state if isinstance(state, tuple) else (state, None)
+        slots = slots or {}
         if "_values" in slots and not hasattr(type(self), "_values"):  # an older pickle, with entries and maybe keys
             entries, _ = slots.pop("_values"), slots.pop("_keys", None)
             Table.__init__(self, entries if isinstance(entries, dict) else zip(entries[::2], entries[1::2]))
@@ -132,29 +128,69 @@ class SortedMap(Table[Value], MutableMapping[ObjectIdentifier, Value]):
             setattr(self, name, value)
 
 
+@recursive_repr("...")
+def _shown(view: Any) -> str:
+    """As that of a dict's view is."""
+    return f"{type(view).__name__}({[*view]})"
+
+
 # The methods of a view are those of its map, in C: no code of Python runs between two steps of list(view).
 _METHODS = "__len__", "__iter__", "__reversed__"
 
 
-class _Keys(KeysView[ObjectIdentifier]):
+class SortedMap_keys(KeysView[ObjectIdentifier]):
     __slots__ = _METHODS
     __reversed__: Callable[[], Iterator[ObjectIdentifier]]
+    __repr__ = _shown
 
 
-class _Values(ValuesView[Value]):
+class SortedMap_values(ValuesView[Value]):
     __slots__ = _METHODS
     __reversed__: Callable[[], Iterator[Value]]
+    __repr__ = _shown
 
     def __contains__(self, value: object) -> bool:
         return value in [*self]
 
 
-class _Items(ItemsView[ObjectIdentifier, Value]):
+class SortedMap_items(ItemsView[ObjectIdentifier, Value]):
     __slots__ = _METHODS
     __reversed__: Callable[[], Iterator[tuple[ObjectIdentifier, Value]]]
+    __repr__ = _shown
 
 
 def _view(view: Other, *methods: Any) -> Other:
     for name, method in zip(_METHODS, methods, strict=True):
         setattr(view, name, method)
     return view
+
+
+def _flat(table: SortedMap[Any]) -> list[Any]:
+    """All keys and values in turn, as of one moment."""
+    return [*chain.from_iterable([*SortedMap.items(table)])]
+
+
+def _start(table: Any) -> tuple[Any, ...]:
+    """What makes a map of its class without entries: a function and its arguments. And the state of the map."""
+    registry: Any = copyreg
+    if hasattr(table, "__getnewargs_ex__"):
+        return registry.__newobj_ex__, (type(table), *table.__getnewargs_ex__()), table.__getstate__()
+    return registry.__newobj__, (type(table), *getattr(table, "__getnewargs__", tuple)()), table.__getstate__()
+
+
+def _filled(new: Any, arguments: Any, entries: Any) -> Any:
+    """A map of pickles that a subclass makes with what __reduce__ returns."""
+    made = new(*arguments)
+    Table.update(made, entries)
+    return made
+
+
+def _made(table: Other, *sources: Any) -> Other:
+    """A map of the class and the state of another one, with entries of others in turn."""
+    new, arguments, state = (SortedMap, (), None) if type(table) is SortedMap else _start(table)
+    made = new(*arguments)
+    if state is not None:
+        made.__setstate__(state)
+    for entries in sources:
+        Table.update(made, entries)
+    return cast(Other, made)
