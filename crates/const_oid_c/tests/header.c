@@ -49,6 +49,7 @@ HAS_VALUE(MAX_ERROR_TEXT, 47);
 #define TYPE_OCTETS uint8_t
 #define TYPE_DER uint8_t
 #define TYPE_TEXT char
+#define TYPE_BELOW char
 #define TYPE_ARCS uint32_t
 #define TYPE_LIST const_oid_octets
 #define TYPE_ITEM const void *
