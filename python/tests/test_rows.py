@@ -21,7 +21,7 @@ def digits_of(oid):
 
 
 def of_words(call, kind=oid_of):
-    return lambda words: call(*map(kind, words.split(" ")))
+    return lambda words: call(*map(kind, words.removesuffix(" ").split(" ")))
 
 
 def listed(arcs):

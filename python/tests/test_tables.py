@@ -83,6 +83,8 @@ class Names(unittest.TestCase):
         draw = random.Random(SEED)
         for oid, name in names.entries() + names.common_entries():
             self.assertEqual(names.by_name(name), names.parse(name))
+            if (names.by_name(name), names.name_of(oid)) == (oid, name):
+                self.assertEqual(name, names.display(oid))
             for below in (oid, oid.child(0), ObjectIdentifier.from_arcs([*oid, *draw.choices(range(2**32), k=3)])):
                 self.assertEqual(below, names.parse(names.display(below)))
         self.assertEqual(Code.NOT_UTF8, error_of(names.parse, "cn.\udcff").code)

@@ -36,6 +36,7 @@ static void see_wrong(const char *typed, size_t typed_len, const char *error, si
     const_oid_status made = const_oid_error_text(parsed.code, parsed.detail, text, ROOM);
     SEE(made.code == CONST_OID_OK && made.len == strlen(error) && memcmp(text, error, made.len) == 0, row);
     SEE(parsed.len == component && octets[0] == 0xAA, row);
+    SEE(const_oid_parse(typed, typed_len, NULL, 0).code == parsed.code, row);
 }
 
 static void see_row(const char *typed, const char *second, const char *third, size_t row) {
@@ -81,12 +82,16 @@ int main(void) {
         see_name(const_oid_common_name(i), const_oid_common_octets(i), i);
     see_wrong(NULL, 0, "OID value is empty", 0, 0);
     see_wrong("cn\0", 3, "expected digit, got 'c'", 0, 0);
-    SEE(const_oid_parse("cn.\xFF", 4, octets, ROOM).code == CONST_OID_NOT_UTF8 && octets[0] == 0xAA, 0);
+    static const char *const others[] = {"\xFF", "cn\xFF", "cn.\xFF", "OID.\xC3", "1.2.\xFF", "sysUpTime.0.\xED\xA0\x80"};
+    for (size_t i = 0; i < sizeof others / sizeof *others; i++) {
+        const const_oid_status parsed = const_oid_parse(others[i], strlen(others[i]), octets, ROOM);
+        SEE(parsed.code == CONST_OID_NOT_UTF8 && parsed.detail == 0 && parsed.len == 0 && octets[0] == 0xAA, i);
+    }
     SEE(const_oid_display(NULL, 0, NULL, 0).code == CONST_OID_EMPTY, 0);
     SEE(const_oid_display((const uint8_t *)"\x55\4\x80", 3, text, ROOM).code == CONST_OID_BASE128, 0);
     memset(wanted, 1, ROOM);
     memcpy(wanted, "\x2B\6\1\4", 4);
-    SEE(const_oid_display(wanted, 1500, text, ROOM).len == 3001, 0); /* enterprises.1.1 .. */
+    SEE(const_oid_display(wanted, 1500, text, ROOM).len == 3001 && strncmp(text, "enterprises.1.1.", 16) == 0, 0);
     see_parsed(text, 3001, 1500, 0);
     return 0;
 }
