@@ -859,7 +859,7 @@ static PyType_Slot walk_slots[] = {
 };
 
 static PyType_Spec walk_spec = {
-    "const_oid.sorted_map.Walk", sizeof(Walk), 0,
+    "const_oid.sorted_map.SortedMap_iterator", sizeof(Walk), 0,
     Py_TPFLAGS_DEFAULT | Py_TPFLAGS_HAVE_GC | Py_TPFLAGS_IMMUTABLETYPE | Py_TPFLAGS_DISALLOW_INSTANTIATION, walk_slots,
 };
 

@@ -239,13 +239,12 @@ OwnMap = type("OwnMap", (SortedMap,), {"__setitem__": own, "__delitem__": own})
 # Calls of a map, or of a dict, of a subclass: those that make copies, and all.
 COPYING = {"copy()": lambda one: [one.copy()], "|": lambda one: [one | {}, {} | one]}
 COPYING |= {"copy": lambda one: [copy.copy(one)], "copies": lambda one: copies_of(one, range(2, 6))}
-OF_DICT = {name: lambda one, call=call: call(one, KEYS.__getitem__, int) for name, call in CALLS.items()} | COPYING
-OF_DICT |= {call.__name__: call for call in (len, list, repr, reversed)} | {"==": lambda one: one == {KEYS[2]: 2}}
+OF_DICT = {name: lambda one, call=CALLS[name]: call(one, KEYS.__getitem__, int) for name in CALLS.keys() - LOOKUPS[3:]}
+OF_DICT |= COPYING | {call.__name__: call for call in (len, list, repr, reversed)}
 OF_DICT |= {name: lambda one, name=name: [*getattr(one, name)()] for name in ("keys", "values", "items")}
 OF_DICT |= {f"back, {name}": lambda one, name=name: [*reversed(getattr(one, name)())] for name in ("values", "items")}
 OF_DICT |= {"fromkeys": lambda one: type(one).fromkeys(KEYS), "all": lambda one: type(one).__base__(one)}
-for name in ("nearest", "next_after", "subtree"):
-    del OF_DICT[name]
+OF_DICT["=="] = lambda one: one == {KEYS[2]: 2}
 # Methods that only one of both calls where a subclass has them: copies of a map have its class, state and entries.
 OWN_OF_ONE = {*itertools.product(("__getstate__", "__new__"), ("copy()", "|")), ("items", "copy"), ("items", "copies")}
 # What a subclass makes of itself for copies and pickles, with entries in other places, or without them.
@@ -295,6 +294,7 @@ class Sorted(unittest.TestCase):
             shown, views = {oid: 1}, getattr(table := SortedMap({oid: 1}), view.__name__)
             shown[oid.child(1)], table[oid.child(1)] = view(shown), views()
             self.assertEqual(repr(view(shown)).replace("dict", "SortedMap"), repr(views()))
+        self.assertEqual("SortedMap_iterator", type(iter(table)).__name__)
         self.assertNotIn(SortedMap({oid: Own("2.5")}), [{KEYS[0]: Own("2.5")}, {mock.Mock(spec=oid): 1}])
         walk, table = iter(bare := SortedMap.__new__(SortedMap)), SortedMap.fromkeys(KEYS)
         found = [*readings(bare)], bare.clear(), [*walk], bare.update(table) or bare
@@ -429,8 +429,9 @@ class Sorted(unittest.TestCase):
 
     def test_a_reading_is_of_one_moment(self):
         """It runs no code of Python once it has begun: functions change the map where they are called and return."""
-        reads = [dict, SortedMap.fromkeys, repr, copy.copy, SortedMap.copy, lambda one: mock.MagicMock() in one.values()]
-        reads += [lambda table: {**table}, lambda table: [*table.items()], lambda table: [*table.__reduce_ex__(4)[4]]]
+        reads = [dict, SortedMap.fromkeys, repr, copy.copy, SortedMap.copy]
+        reads += [lambda table: mock.MagicMock() in table.values(), lambda table: [*table.__reduce_ex__(4)[4]]]
+        reads += [lambda table: {**table}, lambda table: [*table.items()]]
         for kind, read in itertools.product((SortedMap, Attributes), [*reads, SortedMap(zip(KEYS, KEYS)).__eq__]):
             table, key = kind(zip(KEYS, KEYS)), ObjectIdentifier("2.9")
             sys.setprofile(lambda *_: (SortedMap.update(table, {key: 1}), SortedMap.pop(table, key)))
