@@ -88,6 +88,12 @@ class Names(unittest.TestCase):
             for below in (oid, oid.child(0), ObjectIdentifier.from_arcs([*oid, *draw.choices(range(2**32), k=3)])):
                 self.assertEqual(below, names.parse(names.display(below)))
         self.assertEqual(Code.NOT_UTF8, error_of(names.parse, "cn.\udcff").code)
+        for typed, given in {" SNMPv2-MIB::sysUpTime.x \n": "sysUpTime.x", "\tOID.1.x": "1.x", "cn\0": "cn\0"}.items():
+            error = error_of(names.parse, typed)
+            self.assertEqual((given, given.split(".")[-1]), (error.given, error.given.split(".")[error.piece]))
+        self.assertIsNone(names.by_name("cn\0"))
+        long = ObjectIdentifier.from_bytes(b"\x2a" + 999 * b"\x7f")
+        self.assertEqual(("member-body" + 999 * ".127", long), (names.display(long), names.parse(names.display(long))))
 
 
 def drawn(draw):
