@@ -1,4 +1,4 @@
-/* const_oid_parse and const_oid_display: rows of what people type, in room that is enough or one short, and names. */
+/* const_oid_parse and const_oid_display: rows of what people type, in room that is enough or short, and names. */
 #include "const_oid_common_names.h"
 #include "see.h"
 
@@ -8,22 +8,30 @@ enum { ROOM = 4096 };
 static uint8_t octets[ROOM], wanted[ROOM];
 static char text[ROOM];
 
-/* Octets are displayed so, and what is past it is kept, or all if it does not fit. */
+/* Octets are displayed so, and what is past it is kept, or in any shorter room all. */
 static void see_displayed(size_t octets_len, const char *shown, size_t row) {
     const size_t len = strlen(shown);
+    const size_t rooms[] = {0, 1, len / 2, len - 1, len};
+    const_oid_status displayed;
     memset(text, 'x', ROOM - 1);
-    const_oid_status displayed = const_oid_display(wanted, octets_len, text, len);
-    SEE(displayed.code == CONST_OID_OUTPUT_TOO_SHORT && displayed.len == len && strspn(text, "x") == ROOM - 1, row);
+    for (size_t i = 0; i < sizeof rooms / sizeof *rooms; i++) {
+        displayed = const_oid_display(wanted, octets_len, text, rooms[i]);
+        SEE(displayed.code == CONST_OID_OUTPUT_TOO_SHORT && displayed.len == len && strspn(text, "x") == ROOM - 1, row);
+    }
     displayed = const_oid_display(wanted, octets_len, text, len + 1);
     SEE(displayed.code == CONST_OID_OK && displayed.len == len && displayed.detail == 0, row);
     SEE(strcmp(text, shown) == 0 && text[len + 1] == 'x', row);
 }
 
-/* A text is parsed as octets of this length, and what is past them is kept, or all if they do not fit. */
+/* A text is parsed as octets of this length, and what is past them is kept, or in any shorter room all. */
 static void see_parsed(const char *typed, size_t typed_len, size_t len, size_t row) {
+    const size_t rooms[] = {0, len / 2, len - 1};
+    const_oid_status parsed;
     memset(octets, 0xAA, ROOM);
-    const_oid_status parsed = const_oid_parse(typed, typed_len, octets, len - 1);
-    SEE(parsed.code == CONST_OID_OUTPUT_TOO_SHORT && parsed.len == len && octets[0] == 0xAA, row);
+    for (size_t i = 0; i < sizeof rooms / sizeof *rooms; i++) {
+        parsed = const_oid_parse(typed, typed_len, octets, rooms[i]);
+        SEE(parsed.code == CONST_OID_OUTPUT_TOO_SHORT && parsed.len == len && octets[0] == 0xAA, row);
+    }
     parsed = const_oid_parse(typed, typed_len, octets, len);
     SEE(parsed.code == CONST_OID_OK && parsed.len == len && parsed.detail == 0, row);
     SEE(memcmp(octets, wanted, len) == 0 && octets[len] == 0xAA, row);
