@@ -252,7 +252,7 @@ OF_DICT |= {f"back, {name}": lambda one, name=name: [*reversed(getattr(one, name
 OF_DICT |= {"fromkeys": lambda one: type(one).fromkeys(KEYS), "all": lambda one: type(one).__base__(one)}
 OF_DICT["=="] = lambda one: one == {KEYS[2]: 2}
 # Methods that only one of both calls where a subclass has them: copies of a map have its class, state and entries.
-OWN_OF_ONE = {*itertools.product(("__getstate__", "__new__"), ("copy()", "|")), ("items", "copy"), ("items", "copies")}
+OWN_OF_ONE = {("__getstate__", "copy()"), ("__getstate__", "|"), ("items", "copy"), ("items", "copies")}
 # What a subclass makes of itself for copies and pickles, with entries in other places, or without them.
 REDUCED = {
     "nothing": lambda one: (type(one), ()),
@@ -339,6 +339,8 @@ class Sorted(unittest.TestCase):
             vars(table := type("Kind", (SortedMap,), {"__setattr__": None, **way})(source))["x"] = 5
             made = table.copy(), copy.copy(table), table | {}, copy.deepcopy(table)
             self.assertEqual(4 * [(source, {"x": 5})], [(one, vars(one)) for one in made])
+        way = {"__getstate__": lambda table: dict(table), "__setstate__": SortedMap.update}
+        self.assertEqual({one: 2}, type("Kind", (SortedMap,), way)(source) | {one: 2})
         # Of version 1.5.0, by protocol 0, which makes the map by object.__new__.
         old = b"ccopy_reg\n_reconstructor\n(cconst_oid.sorted_map\nSortedMap\nc__builtin__\nobject\nNtR(N(dV_values\n("
         old += b"dcconst_oid._native\nrestored\n(c_codecs\nencode\n(VU\nVlatin1\ntRtRI1\nsstb."
@@ -349,14 +351,17 @@ class Sorted(unittest.TestCase):
         for way, (name, reduce) in itertools.product(("__reduce__", "__reduce_ex__", "copyreg"), REDUCED.items()):
             found = []
             for base in (dict, SortedMap):
+                counts = itertools.count()
                 methods = {"extend": lambda one, items: setattr(one, "x", items), way: lambda one, *_: reduce(one)}
+                methods["__new__"] = lambda kind, *_: (next(counts), base.__new__(kind))[1]
                 kind = type("Kind", (base,), {"__module__": __name__, **methods})
                 reductors = mock.patch.dict(copyreg.dispatch_table, {kind: reduce} if way == "copyreg" else {})
                 with reductors, mock.patch.dict(globals(), Kind=kind):
                     for call in COPYING.values():
                         one, made = kind({KEYS[2]: 2}), []
                         error = error_of(lambda: made.extend(call(one)))
-                        found.append([type(error), *((plain(copied), getattr(copied, "x", None)) for copied in made)])
+                        made = [(plain(copied), getattr(copied, "x", None)) for copied in made]
+                        found.append((type(error), next(counts), made))
             self.assertEqual(found[: len(COPYING)], found[len(COPYING) :], (way, name))
 
     def test_methods_are_called_as_those_of_a_subclass_of_dict(self):

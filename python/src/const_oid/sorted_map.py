@@ -107,14 +107,13 @@ class SortedMap(Table[Value], MutableMapping[ObjectIdentifier, Value]):
 
     def __reduce__(self) -> Any:
         """As of a dict: a subclass that calls it has the entries among the arguments."""
-        new, arguments, state = _start(self)
-        return _filled, (new, arguments, [*SortedMap.items(self)]), state
+        return _filled, (type(self), [*SortedMap.items(self)]), cast(Any, self).__getstate__()
 
     def __reduce_ex__(self, protocol: Any) -> Any:
         """As of a dict: entries are no part of the state, which a subclass may make and take by methods of its own."""
         if type(self).__reduce__ is not SortedMap.__reduce__:
             return self.__reduce__()
-        return *_start(self), None, iter([*SortedMap.items(self)])
+        return *_new(self), cast(Any, self).__getstate__(), None, iter([*SortedMap.items(self)])
 
     def __setstate__(self, state: Any) -> None:
         attributes, slots = state if isinstance(state, tuple) else (state, None)
@@ -170,25 +169,24 @@ def _flat(table: SortedMap[Any]) -> list[Any]:
     return [*chain.from_iterable([*SortedMap.items(table)])]
 
 
-def _start(table: Any) -> tuple[Any, ...]:
-    """What makes a map of its class without entries: a function and its arguments. And the state of the map."""
+def _new(table: Any) -> tuple[Any, Any]:
+    """What makes a map of a class, without entries, for pickles: a function and its arguments."""
     registry: Any = copyreg
     if hasattr(table, "__getnewargs_ex__"):
-        return registry.__newobj_ex__, (type(table), *table.__getnewargs_ex__()), table.__getstate__()
-    return registry.__newobj__, (type(table), *getattr(table, "__getnewargs__", tuple)()), table.__getstate__()
+        return registry.__newobj_ex__, (type(table), *table.__getnewargs_ex__())
+    return registry.__newobj__, (type(table), *getattr(table, "__getnewargs__", tuple)())
 
 
-def _filled(new: Any, arguments: Any, entries: Any) -> Any:
-    """A map of pickles that a subclass makes with what __reduce__ returns."""
-    made = new(*arguments)
+def _filled(kind: Any, entries: Any) -> Any:
+    """A map of a class, with entries, for pickles."""
+    made = object.__new__(kind)
     Table.update(made, entries)
     return made
 
 
 def _made(table: Other, *sources: Any) -> Other:
     """A map of the class and the state of another one, with entries of others in turn."""
-    new, arguments, state = (SortedMap, (), None) if type(table) is SortedMap else _start(table)
-    made = new(*arguments)
+    made, state = cast(Any, object.__new__(type(table))), cast(Any, table).__getstate__()
     if state is not None:
         made.__setstate__(state)
     for entries in sources:
