@@ -1,5 +1,5 @@
 /* The extension module const_oid._native, for the stable ABI of Python 3.11. An identifier holds its contents octets,
- * and const_oid.h computes all but equality and prefixes. No state is here: each interpreter has its own module. */
+ * and const_oid.h computes all but equality and prefixes. Each interpreter has a module of its own, with the state. */
 #include "native.h"
 
 static const_oid_octets items_of(PyObject *bytes) {
@@ -557,6 +557,19 @@ static int module_exec(PyObject *module) {
     return PyModule_AddType(module, (PyTypeObject *)type);
 }
 
+/* Its state is the class of iterators of maps. */
+static int module_traverse(PyObject *module, visitproc visit, void *arg) {
+    Py_VISIT(*(PyObject **)PyModule_GetState(module));
+    return 0;
+}
+
+static int module_clear(PyObject *module) {
+    Py_CLEAR(*(PyObject **)PyModule_GetState(module));
+    return 0;
+}
+
+static void module_free(void *module) { module_clear(module); }
+
 static PyObject *restored(PyObject *module, PyObject *octets) {
     OWNED *type = PyObject_GetAttrString(module, "ObjectIdentifier");
     if (!type) return NULL;
@@ -581,6 +594,7 @@ static PyModuleDef_Slot module_slots[] = {
 /* PyModuleDef_Init fills its head: that of a header is for its own Python, so each would make another module. */
 static struct PyModuleDef module = {
     .m_name = "_native", .m_doc = "Identifiers over const_oid_c.", .m_methods = module_methods,
+    .m_size = sizeof(PyObject *), .m_traverse = module_traverse, .m_clear = module_clear, .m_free = module_free,
 };
 
 PyMODINIT_FUNC PyInit__native(void) {

@@ -68,11 +68,13 @@ typedef struct {
 
 /* ---- Entries and runs ---- */
 
-/* Most keys have the type of the first one. */
+/* Whether an object is an identifier. Most keys have the type of the first one. */
+static inline int can_be_key(const Tree *tree, PyObject *key) {
+    return (tree->used && tree->entries->key && Py_TYPE(key) == Py_TYPE(tree->entries->key)) || is_identifier(key);
+}
+
 static inline int is_key(PyObject *self, PyObject *key) {
-    const Tree *tree = &((Table *)self)->tree;
-    if (tree->used && tree->entries->key && Py_TYPE(key) == Py_TYPE(tree->entries->key)) return 1;
-    return is_identifier(key) || raise_wrong_type(self, "key must be an ObjectIdentifier", key);
+    return can_be_key(&((Table *)self)->tree, key) || raise_wrong_type(self, "key must be an ObjectIdentifier", key);
 }
 
 static const const_oid_octets *items_of(PyObject *key) { return &((Identifier *)key)->items; }
@@ -206,10 +208,10 @@ static int put_in_order(Run *run) {
 
 /* ---- The hash table: open addressing, with linear probing ---- */
 
-/* The slot of a key, or the free one, which is 0, where it would be. A key's slot is found from that of the low bits of
- * its hash on, before a free one. It has these bits of a number, and the others of the hash. */
-static inline uint32_t slot_of(const Tree *tree, PyObject *key) {
-    uint32_t mask = tree->mask, hash = hash_of(key), at = hash & mask;
+/* The slot of a key with a hash, or the free one, which is 0, where it would be. A key's slot is found from that of the
+ * low bits of its hash on, before a free one. It has these bits of a number, and the others of the hash. */
+static inline uint32_t slot_of(const Tree *tree, PyObject *key, uint32_t hash) {
+    uint32_t mask = tree->mask, at = hash & mask;
     for (; tree->slots[at]; at = (at + 1) & mask) {
         uint32_t number = tree->slots[at] ^ (hash & ~mask);
         if (number <= mask && is_same(tree->entries[number - 1].key, key)) break;
@@ -217,11 +219,13 @@ static inline uint32_t slot_of(const Tree *tree, PyObject *key) {
     return at;
 }
 
-/* The entry of a key, or NULL. */
-static inline Entry *lookup(const Tree *tree, PyObject *key) {
-    uint32_t slot = tree->size ? tree->slots[slot_of(tree, key)] : 0;
+/* The entry of a key with a hash, or NULL. */
+static inline Entry *lookup_hashed(const Tree *tree, PyObject *key, uint32_t hash) {
+    uint32_t slot = tree->size ? tree->slots[slot_of(tree, key, hash)] : 0;
     return slot ? &tree->entries[(slot & tree->mask) - 1] : NULL;
 }
+
+static inline Entry *lookup(const Tree *tree, PyObject *key) { return lookup_hashed(tree, key, hash_of(key)); }
 
 /* Gives an entry, whose key has no slot, one. */
 static inline void fill_slot(uint32_t *slots, uint32_t mask, const Entry *entries, uint32_t index) {
@@ -458,7 +462,7 @@ static Entry take(Tree *tree, Place place) {
     Part *part = &tree->parts[place.part];
     uint32_t *at = &part->indices[place.index], index = *at;
     Entry entry = tree->entries[index];
-    free_slot(tree, slot_of(tree, entry.key));
+    free_slot(tree, slot_of(tree, entry.key, entry.code.hash));
     memmove(at, at + 1, (--part->count - place.index) * sizeof *at);
     if (!part->count) {
         PyMem_Free(part->indices);
@@ -748,12 +752,18 @@ static int collect_dict(PyObject *self, PyObject *given, Run *run) {
     return error ? -1 : 0;
 }
 
-/* Appends the entries of a mapping or an iterable. As dict does, it takes those of a table or a dict, or of a subclass
- * with the iterator of these, as they are. */
-static int collect(PyObject *self, PyObject *given, Run *run) {
+/* Whether a mapping is a table or a dict, or of a subclass with the iterator of these: it is then read as it is. */
+static int is_table(PyObject *given) { return PyType_GetSlot(Py_TYPE(given), Py_tp_iter) == (void *)table_iter; }
+
+static int is_dict(PyObject *given) {
     void *iter = PyType_GetSlot(Py_TYPE(given), Py_tp_iter);
-    if (iter == (void *)table_iter) return append_all(&((Table *)given)->tree, (Place){0, 0, 0}, NULL, run);
-    if (PyDict_Check(given) && iter == PyType_GetSlot(&PyDict_Type, Py_tp_iter)) return collect_dict(self, given, run);
+    return PyDict_Check(given) && iter == PyType_GetSlot(&PyDict_Type, Py_tp_iter);
+}
+
+/* Appends the entries of a mapping or an iterable. */
+static int collect(PyObject *self, PyObject *given, Run *run) {
+    if (is_table(given)) return append_all(&((Table *)given)->tree, (Place){0, 0, 0}, NULL, run);
+    if (is_dict(given)) return collect_dict(self, given, run);
     OWNED *method = attribute(given, "keys");
     if (!method && !PyErr_ExceptionMatches(PyExc_AttributeError)) return -1;
     PyErr_Clear();
@@ -782,31 +792,120 @@ static PyObject *table_update(PyObject *self, PyObject *arguments) {
     return set_all(self, entries) ? NULL : Py_NewRef(Py_None);
 }
 
+/* ---- Equality ---- */
+
+/* Whether another tree has the same keys. Appends the values that are not the same objects, each beside the other's.
+ * Negative without memory. */
+static int pair_values(const Tree *tree, const Tree *other, Run *pairs) {
+    Place place = {0, 0, 0}, at = {0, 0, 0};
+    int error = 0;
+    if (tree->size != other->size) return 0;
+    for (const Entry *one; !error && (one = next_entry(tree, &place));) {
+        const Entry *same = next_entry(other, &at);
+        if (!is_same(one->key, same->key)) return 0;
+        if (one->value != same->value) error = append(NULL, pairs, one->value, same->value);
+    }
+    return error ? -1 : 1;
+}
+
+/* How many keys of a dict are looked up at once, so that each waits for memory while others do. */
+#define AT_ONCE 32
+
+/* 0 if a dict has other keys, 1 if its values are the same objects, and otherwise 2. Gives the value of each key to the
+ * index of its entry. */
+static int find_values(const Tree *tree, PyObject *dict, PyObject **values) {
+    PyObject *keys[AT_ONCE], *others[AT_ONCE];
+    uint32_t hashes[AT_ONCE];
+    Py_ssize_t at = 0;
+    int found = 1, count = AT_ONCE;
+    while (count == AT_ONCE) {
+        for (count = 0; count < AT_ONCE && PyDict_Next(dict, &at, &keys[count], &others[count]); count++) {
+            if (!can_be_key(tree, keys[count])) return 0;
+            hashes[count] = hash_of(keys[count]);
+            __builtin_prefetch(&tree->slots[hashes[count] & tree->mask]);
+        }
+        for (int index = 0; index < count; index++) {
+            uint32_t number = tree->slots[hashes[index] & tree->mask] & tree->mask;
+            if (!number) return 0;
+            __builtin_prefetch(&tree->entries[number - 1]);
+            __builtin_prefetch(&values[number - 1]);
+        }
+        for (int index = 0; index < count; index++) {
+            const Entry *entry = lookup_hashed(tree, keys[index], hashes[index]);
+            if (!entry || values[entry - tree->entries]) return 0;
+            values[entry - tree->entries] = others[index];
+            if (others[index] != entry->value) found = 2;
+        }
+    }
+    return found;
+}
+
+/* The same as of another tree. */
+static int pair_dict(const Tree *tree, PyObject *dict, Run *pairs) {
+    if (PyDict_Size(dict) != tree->size) return 0;
+    PyObject **values = PyMem_Calloc(tree->used, sizeof *values);
+    if (!values) return PyErr_NoMemory(), -1;
+    int found = find_values(tree, dict, values);
+    Place place = {0, 0, 0};
+    for (const Entry *one; found > 1 && (one = next_entry(tree, &place));) {
+        PyObject *other = values[one - tree->entries];
+        if (one->value != other && append(NULL, pairs, one->value, other)) found = -1;
+    }
+    PyMem_Free(values);
+    return found;
+}
+
+/* Whether all pairs are equal, in turn. */
+static int are_equal(const Run *pairs, int found) {
+    for (size_t index = 0; found > 0 && index < pairs->count; index++) {
+        found = PyObject_RichCompareBool(pairs->entries[index].key, pairs->entries[index].value, Py_EQ);
+    }
+    return found;
+}
+
+/* None if code of Python runs to read the other one. Their values may change both, of which all is read before. */
+static PyObject *table_equals(PyObject *self, PyObject *other) {
+    const Tree *tree = &((Table *)self)->tree;
+    Run pairs = {0};
+    int found;
+    if (is_table(other)) found = pair_values(tree, &((Table *)other)->tree, &pairs);
+    else if (is_dict(other)) found = pair_dict(tree, other, &pairs);
+    else return Py_NewRef(Py_None);
+    found = are_equal(&pairs, found);
+    drop(&pairs);
+    return found < 0 ? NULL : PyBool_FromLong(found);
+}
+
 /* ---- Iterators ---- */
 
-/* An iterator over the keys, values or entries of a table, forth or back. */
+/* The keys, values or entries of a table. */
 typedef struct {
     PyObject_HEAD
-    PyObject *table; /* NULL after its end */
+    PyObject *table;
+    unsigned char kind;
+} View;
+
+/* An iterator over them, forth or back. */
+typedef struct {
+    View view;               /* without a table after its end */
     unsigned long long version;
-    const uint32_t *indices;   /* those of a part */
-    uint32_t at, end, step;    /* the next one, what comes after the last, and 1, or UINT32_MAX, which is back */
-    uint32_t part, left;       /* the part's number, and how many are left in others */
-    int kind;
+    const uint32_t *indices; /* those of a part */
+    uint32_t at, end, step;  /* the next one, what comes after the last, and 1, or UINT32_MAX, which is back */
+    uint32_t part, left;     /* the part's number, and how many are left in others */
 } Walk;
 
 enum { KEYS, VALUES, ENTRIES, BACK };
 
-static void walk_dealloc(PyObject *self) {
+static void view_dealloc(PyObject *self) {
     PyTypeObject *type = Py_TYPE(self);
     PyObject_GC_UnTrack(self);
-    Py_DecRef(((Walk *)self)->table);
+    Py_DecRef(((View *)self)->table);
     ((freefunc)PyType_GetSlot(type, Py_tp_free))(self);
     Py_DecRef((PyObject *)type);
 }
 
-static int walk_traverse(PyObject *self, visitproc visit, void *arg) {
-    Py_VISIT(((Walk *)self)->table);
+static int view_traverse(PyObject *self, visitproc visit, void *arg) {
+    Py_VISIT(((View *)self)->table);
     Py_VISIT(Py_TYPE(self));
     return 0;
 }
@@ -815,14 +914,14 @@ static PyObject *walk_next(PyObject *self);
 
 /* Raises an error if keys have come or gone, which stays so; goes on to the next part; or ends. */
 static __attribute__((noinline)) PyObject *walk_on(Walk *walk) {
-    PyObject *table = walk->table;
+    PyObject *table = walk->view.table;
     const Tree *tree = table ? &((Table *)table)->tree : NULL;
     if (tree && tree->version != walk->version) {
         OWNED *name = PyType_GetName(Py_TYPE(table));
         return name ? PyErr_Format(PyExc_RuntimeError, "%U changed during iteration", name) : NULL;
     }
     if (!walk->left) {
-        walk->table = NULL;
+        walk->view.table = NULL;
         Py_DecRef(table);
         return NULL;
     }
@@ -837,12 +936,12 @@ static __attribute__((noinline)) PyObject *walk_on(Walk *walk) {
 static PyObject *walk_next(PyObject *self) {
     Walk *walk = (Walk *)self;
     if (walk->at == walk->end) return walk_on(walk);
-    const Tree *tree = &((Table *)walk->table)->tree;
+    const Tree *tree = &((Table *)walk->view.table)->tree;
     if (tree->version != walk->version) return walk_on(walk);
     const Entry *entry = &tree->entries[walk->indices[walk->at]];
     walk->at += walk->step;
-    if (walk->kind == KEYS) return Py_NewRef(entry->key);
-    return walk->kind == VALUES ? Py_NewRef(entry->value) : pair_of_entry(entry);
+    if (walk->view.kind == KEYS) return Py_NewRef(entry->key);
+    return walk->view.kind == VALUES ? Py_NewRef(entry->value) : pair_of_entry(entry);
 }
 
 static PyObject *walk_hint(PyObject *self, PyObject *Py_UNUSED(none)) {
@@ -853,7 +952,7 @@ static PyObject *walk_hint(PyObject *self, PyObject *Py_UNUSED(none)) {
 static PyMethodDef walk_methods[] = {{"__length_hint__", walk_hint, METH_NOARGS, NULL}, {0}};
 
 static PyType_Slot walk_slots[] = {
-    {Py_tp_dealloc, (void *)walk_dealloc}, {Py_tp_traverse, (void *)walk_traverse},
+    {Py_tp_dealloc, (void *)view_dealloc}, {Py_tp_traverse, (void *)view_traverse},
     {Py_tp_iter, (void *)PyObject_SelfIter}, {Py_tp_iternext, (void *)walk_next}, {Py_tp_methods, walk_methods},
     {0},
 };
@@ -863,16 +962,14 @@ static PyType_Spec walk_spec = {
     Py_TPFLAGS_DEFAULT | Py_TPFLAGS_HAVE_GC | Py_TPFLAGS_IMMUTABLETYPE | Py_TPFLAGS_DISALLOW_INSTANTIATION, walk_slots,
 };
 
-/* The class of iterators is in that of tables, where nobody can set it. */
-static PyObject *walk_over(PyObject *self, long way) {
-    OWNED *type = attribute((PyObject *)base_by(Py_TYPE(self), table_dealloc), "_Walk");
-    Walk *walk = type ? (Walk *)PyType_GenericAlloc((PyTypeObject *)type, 0) : NULL;
+static PyObject *walk_over(PyObject *self, int way) {
+    PyTypeObject **type = PyType_GetModuleState(base_by(Py_TYPE(self), table_dealloc));
+    Walk *walk = type && *type ? (Walk *)PyType_GenericAlloc(*type, 0) : NULL;
     if (!walk) return NULL;
     const Tree *tree = &((Table *)self)->tree; /* after the allocation, which may run code that changes the table */
-    walk->table = Py_NewRef(self);
+    walk->view = (View){walk->view.ob_base, Py_NewRef(self), (unsigned char)(way % BACK)};
     walk->version = tree->version;
     walk->left = tree->size;
-    walk->kind = (int)(way % BACK);
     walk->step = way < BACK ? 1 : UINT32_MAX;
     walk->part = way < BACK ? UINT32_MAX : tree->part_count;
     return (PyObject *)walk;
@@ -882,10 +979,48 @@ static PyObject *table_iter(PyObject *self) { return walk_over(self, KEYS); }
 
 static PyObject *table_reversed(PyObject *self, PyObject *Py_UNUSED(none)) { return walk_over(self, BACK); }
 
-static PyObject *table_walk(PyObject *self, PyObject *way) {
-    long number = PyLong_AsLong(way);
-    return number == -1 && PyErr_Occurred() ? NULL : walk_over(self, number);
+static PyObject *view_new(PyTypeObject *type, PyObject *arguments, PyObject *Py_UNUSED(keywords)) {
+    PyObject *table;
+    unsigned char kind;
+    if (!PyArg_ParseTuple(arguments, "Ob", &table, &kind)) return NULL;
+    if (!base_by(Py_TYPE(table), table_dealloc)) return PyErr_Format(PyExc_TypeError, "%R is no SortedMap", table);
+    View *view = (View *)PyType_GenericAlloc(type, 0);
+    if (!view) return NULL;
+    view->table = Py_NewRef(table);
+    view->kind = kind;
+    return (PyObject *)view;
 }
+
+static PyObject *view_iter(PyObject *self) { return walk_over(((View *)self)->table, ((View *)self)->kind); }
+
+static PyObject *view_reversed(PyObject *self, PyObject *Py_UNUSED(none)) {
+    return walk_over(((View *)self)->table, ((View *)self)->kind + BACK);
+}
+
+static Py_ssize_t view_len(PyObject *self) { return table_len(((View *)self)->table); }
+
+/* The names of their class, which sorted_map.py has subclasses of. */
+static const char *view_names[] = {"Keys", "Values", "Items", NULL};
+
+static PyMethodDef view_methods[] = {
+    {"__class_getitem__", Py_GenericAlias, METH_O | METH_CLASS, "For types."},
+    {"__reversed__", view_reversed, METH_NOARGS, NULL},
+    {0},
+};
+
+static PyMemberDef view_members[] = {{"_mapping", T_OBJECT, offsetof(View, table), READONLY, NULL}, {0}};
+
+static PyType_Slot view_slots[] = {
+    {Py_tp_new, (void *)view_new}, {Py_tp_dealloc, (void *)view_dealloc}, {Py_tp_traverse, (void *)view_traverse},
+    {Py_tp_iter, (void *)view_iter}, {Py_sq_length, (void *)view_len},
+    {Py_tp_methods, view_methods}, {Py_tp_members, view_members},
+    {0},
+};
+
+static PyType_Spec view_spec = {
+    "const_oid.sorted_map.SortedMap_view", sizeof(View), 0,
+    Py_TPFLAGS_DEFAULT | Py_TPFLAGS_BASETYPE | Py_TPFLAGS_HAVE_GC | Py_TPFLAGS_IMMUTABLETYPE, view_slots,
+};
 
 /* ---- The module ---- */
 
@@ -928,7 +1063,7 @@ static PyMethodDef table_methods[] = {
         ">>> names = SortedMap(zip(map(ObjectIdentifier.from_arcs, arcs), [1, 2, 3]))\n"
         ">>> names.subtree(ObjectIdentifier(\"2.5\"))\n"
         "[(ObjectIdentifier('2.5.4'), 1), (ObjectIdentifier('2.5.4.3'), 2)]"},
-    {"_walk", table_walk, METH_O, "_walk($self, way, /)\n--\n\nKeys, values or entries: 0, 1, 2, or back: 3, 4, 5."},
+    {"_equals", table_equals, METH_O, "_equals($self, other, /)\n--\n\nWhether a map or a dict has the same entries."},
     {"__class_getitem__", Py_GenericAlias, METH_O | METH_CLASS, "For types."},
     {"__reversed__", table_reversed, METH_NOARGS, "__reversed__($self, /)\n--\n\nAn iterator of keys, back."},
     {"__sizeof__", table_sizeof, METH_NOARGS, "__sizeof__($self, /)\n--\n\nThe octets of the map and its parts."},
@@ -954,8 +1089,10 @@ static PyType_Spec table_spec = {
 int add_tables(PyObject *module) {
     hash_bytes = (hashfunc)PyType_GetSlot(&PyBytes_Type, Py_tp_hash);
     OWNED *table = PyType_FromModuleAndSpec(module, &table_spec, NULL);
-    OWNED *walk = PyType_FromModuleAndSpec(module, &walk_spec, NULL);
-    OWNED *attributes = table ? PyObject_GenericGetDict(table, NULL) : NULL;
-    if (!walk || !attributes || PyDict_SetItemString(attributes, "_Walk", walk)) return -1;
-    return PyModule_AddObjectRef(module, "Table", table);
+    OWNED *view = PyType_FromModuleAndSpec(module, &view_spec, NULL);
+    PyObject **walk = PyModule_GetState(module);
+    *walk = PyType_FromModuleAndSpec(module, &walk_spec, NULL);
+    if (!table || !view || !*walk || PyModule_AddObjectRef(module, "Table", table)) return -1;
+    for (const char **name = view_names; *name; name++) if (PyModule_AddObjectRef(module, *name, view)) return -1;
+    return 0;
 }

@@ -123,6 +123,8 @@ MAPS = test_tables.CALLS | {
     "value": lambda table, key, _: table.setdefault(key(0)),
     "missing": lambda table, key, _: (table.get(key(1)), table.get(key(1), GIVEN), table.pop(key(1), GIVEN)),
     "none": lambda table, key, _: (table.nearest(OTHER), table.next_after(key(7)), table.subtree(OTHER)),
+    "equal": lambda table, *_: [table == kind(zip(KEYS[::2], map(tuple, 4 * [[OTHER]]))) for kind in (SortedMap, dict)],
+    "wrong views": lambda table, *_: [raised(type(table.keys()), *given) for given in ((), (1, 1), (table, -1))],
     "over": lambda table, *_: raised(next, iter(table.items()), table.clear()),
 }
 CALLS |= {
@@ -133,7 +135,7 @@ CALLS |= {
 # What raises an exception in a function of Python, which may be lost where there is no memory.
 IN_PYTHON = ("copies of", "finalizer", "hooks", "pickles", "error", "wrong error")
 KEPT = [ObjectIdentifier, Under, OidError, UNDER, GIVEN, OTHER, bytes(OTHER), WRONG, str, tuple, const_oid]
-KEPT += [SortedMap, type(iter(SortedMap())), _native.restored, *KEYS, *OCTETS.values()]
+KEPT += [SortedMap, type(iter(SortedMap())), type(SortedMap().items()), _native.restored, *KEYS, *OCTETS.values()]
 KEPT += [ObjectIdentifier.__name__, Under.__name__, None, True, False, NotImplemented, b"*", b"", 1]
 HELD = 6000 * KEPT  # so that a reference given up too often frees none
 

@@ -15,6 +15,7 @@ import random
 import signal
 import sys
 import tracemalloc
+import types
 import unittest
 import weakref
 from unittest import mock
@@ -313,6 +314,55 @@ class Sorted(unittest.TestCase):
         given = type("Others", (dict,), {"__iter__": None, "keys": lambda _: KEYS[:2]})(dict(zip(KEYS, range(3))))
         self.assertEqual(dict(given), SortedMap(given))
 
+    def test_views_are_as_those_of_a_dict(self):
+        calls = [getattr(operator, name) for name in "and_ or_ sub xor lt le gt ge eq ne".split()]
+        for name in ("keys", "values", "items"):
+            table, own = (kind(zip(KEYS[:4], range(4))) for kind in (SortedMap, dict))
+            views, every = [getattr(one, name)() for one in (table, own)], getattr(dict(zip(KEYS, range(8))), name)()
+            self.assertIsInstance(views[0], getattr(collections.abc, f"{name.title()}View"))
+            for start, end in itertools.combinations(range(7), 2) if name != "values" else ():
+                other = {*getattr(dict(zip(KEYS[start:end], range(start, end))), name)()}
+                found, wanted = ([(call(view, other), call(other, view)) for call in calls] for view in views)
+                self.assertEqual(wanted, found)
+                self.assertEqual(*[view.isdisjoint(other) for view in views])
+            for change in ("replace", "pop or a default", "update of many"):
+                found, wanted = ([*view] for view in views)
+                self.assertEqual((wanted, wanted[::-1], len(wanted)), (found, [*reversed(views[0])], len(views[0])))
+                self.assertEqual(*[[item in view for item in every] for view in views])
+                _ = [CHANGES[change](one, KEYS.__getitem__, itertools.count().__next__) for one in (table, own)]
+            for given in ((), (table,), (own, 0), (table, -1), (table, "0"), (table, 256)):
+                self.assertIn(type(error_of(type(views[0]), *given)), (TypeError, OverflowError))
+
+    def test_maps_are_equal_where_dicts_are(self):
+        """All is read before values are compared: each with that of the same key, in the order of keys, by is or ==."""
+        nan, asked, others = float("nan"), [], [dict, SortedMap, OwnMap, lambda _: types.MappingProxyType(dict(_))]
+        values = (nan, nan, True), (nan, float("nan"), False), (999, int("999"), True), (1, 2, False), ([1], [1], True)
+
+        class Value:
+            def __init__(self, number, is_equal=True):
+                self.number, self.is_equal = number, is_equal
+
+            def __eq__(self, other):
+                asked.append((self.number, other.number))
+                for one in pair:
+                    getattr(one, "clear", int)()
+                return self.is_equal
+
+        for kind in others:
+            for value, other, wanted in values:
+                pair = SortedMap(zip(KEYS, [0, value, 2])), kind([*zip(KEYS, [0, other, 2])][::-1])
+                self.assertEqual((wanted, wanted), (pair[0] == pair[1], not pair[1] != pair[0]), (kind, value))
+            for unequal, count in ((None, 8), (5, 6)):
+                pair = [make((key, Value(index, index != unequal)) for index, key in entries)
+                        for make, entries in ((SortedMap, [*enumerate(KEYS)]), (kind, [*enumerate(KEYS)][::-1]))]
+                asked.clear()
+                self.assertEqual(unequal is None, pair[0] == pair[1])
+                self.assertEqual([(index, index) for index in range(count)], asked)
+        apart = type("Apart", (ObjectIdentifier,), {"__eq__": operator.is_, "__hash__": object.__hash__})
+        keys = apart("2.5"), apart("2.5")
+        table = SortedMap({keys[0]: 1, KEYS[0]: 1})
+        self.assertEqual([False] * 2, [table == kind.fromkeys(keys, 1) for kind in (dict, SortedMap)])
+
     def test_copies_are_apart(self):
         """A map is no part of what it was made from, nor of its copies, which have the attributes of a subclass."""
         one, other, values = ObjectIdentifier("2.5"), ObjectIdentifier("2.6"), [1]
@@ -600,6 +650,15 @@ class Costs(unittest.TestCase):
         for keys, lookups in calls:
             rounds = (2 * seconds(lambda: [*map(table.nearest, keys)]) < seconds(lookups) for _ in range(5))
             self.assertTrue(any(rounds))
+
+    def test_views_and_equality_take_less_time_than_in_python(self):
+        keys = [KEYS[0].child(arc * 7919 % 1000) for arc in range(1000)]
+        table, others = SortedMap.fromkeys(keys), [SortedMap.fromkeys(keys), dict.fromkeys(keys)]
+        view = collections.abc.KeysView
+        views = lambda: [iter(table.keys()) for _ in keys], lambda: [iter(view(table)) for _ in keys]
+        calls = [views, *((lambda other=other: table == other, lambda: [*map(table.get, keys)]) for other in others)]
+        for call, longer in calls:
+            self.assertTrue(any(seconds(call) < seconds(longer) for _ in range(20)))
 
     def test_all_entries_take_about_the_time_of_making_the_map(self):
         draw = random.Random(SEED)

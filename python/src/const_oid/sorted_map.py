@@ -1,13 +1,12 @@
 """A mapping that is sorted by arcs."""
 
 import copyreg
-from collections.abc import Callable, ItemsView, Iterable, Iterator, KeysView, Mapping, MutableMapping, ValuesView
-from functools import partial
+from collections.abc import Collection, ItemsView, Iterable, KeysView, Mapping, MutableMapping, Set, ValuesView
 from itertools import chain
 from reprlib import recursive_repr
 from typing import Any, Self, TypeVar, cast, overload
 
-from ._native import ObjectIdentifier, Table
+from ._native import Items, Keys, ObjectIdentifier, Table, Values
 
 Key = TypeVar("Key", bound=ObjectIdentifier)
 Value = TypeVar("Value")
@@ -63,7 +62,7 @@ class SortedMap(Table[Value], MutableMapping[ObjectIdentifier, Value]):
         >>> list(reversed(SortedMap.fromkeys([ObjectIdentifier("2.5")]).keys()))
         [ObjectIdentifier('2.5')]
         """
-        return _view(SortedMap_keys(self), super().__len__, super().__iter__, super().__reversed__)
+        return SortedMap_keys(self, 0)
 
     def values(self) -> "SortedMap_values[Value]":
         """The values in the order of keys.
@@ -71,7 +70,7 @@ class SortedMap(Table[Value], MutableMapping[ObjectIdentifier, Value]):
         >>> list(SortedMap.fromkeys([ObjectIdentifier("2.5")], 1).values())
         [1]
         """
-        return _view(SortedMap_values(self), super().__len__, partial(super()._walk, 1), partial(super()._walk, 4))
+        return SortedMap_values(self, 1)
 
     def items(self) -> "SortedMap_items[Value]":
         """The entries in the order of keys.
@@ -79,15 +78,18 @@ class SortedMap(Table[Value], MutableMapping[ObjectIdentifier, Value]):
         >>> list(SortedMap.fromkeys([ObjectIdentifier("2.5")], 1).items())
         [(ObjectIdentifier('2.5'), 1)]
         """
-        return _view(SortedMap_items(self), super().__len__, partial(super()._walk, 2), partial(super()._walk, 5))
+        return SortedMap_items(self, 2)
 
     def __eq__(self, other: object) -> bool:
         if not isinstance(other, Mapping):
             return NotImplemented
-        if super().__len__() != len(other) or False in [issubclass(type(key), ObjectIdentifier) for key in [*other]]:
+        if super().__len__() != len(other):
             return False
-        ours, others = _flat(self), _flat(SortedMap(other))
-        return all(map(ObjectIdentifier.__eq__, ours[::2], others[::2])) and ours[1::2] == others[1::2]
+        equals = super()._equals(other)
+        if equals is None:
+            are_keys = False not in [issubclass(type(key), ObjectIdentifier) for key in [*other]]
+            equals = are_keys and super()._equals(SortedMap(other))
+        return bool(equals)
 
     def __or__(self, other: Mapping[Key, Value]) -> Self:
         return _made(self, self, other) if isinstance(other, Mapping) else NotImplemented
@@ -133,35 +135,29 @@ def _shown(view: Any) -> str:
     return f"{type(view).__name__}({[*view]})"
 
 
-# The methods of a view are those of its map, in C: no code of Python runs between two steps of list(view).
-_METHODS = "__len__", "__iter__", "__reversed__"
-
-
-class SortedMap_keys(KeysView[ObjectIdentifier]):
-    __slots__ = _METHODS
-    __reversed__: Callable[[], Iterator[ObjectIdentifier]]
+@KeysView.register
+class SortedMap_keys(Keys, Set[ObjectIdentifier]):
+    __slots__ = ()
+    __contains__: Any = KeysView.__contains__
     __repr__ = _shown
+    _from_iterable = set
 
 
-class SortedMap_values(ValuesView[Value]):
-    __slots__ = _METHODS
-    __reversed__: Callable[[], Iterator[Value]]
+@ValuesView.register
+class SortedMap_values(Values[Value], Collection[Value]):
+    __slots__ = ()
     __repr__ = _shown
 
     def __contains__(self, value: object) -> bool:
         return value in [*self]
 
 
-class SortedMap_items(ItemsView[ObjectIdentifier, Value]):
-    __slots__ = _METHODS
-    __reversed__: Callable[[], Iterator[tuple[ObjectIdentifier, Value]]]
+@ItemsView.register
+class SortedMap_items(Items[Value], Set[tuple[ObjectIdentifier, Value]]):
+    __slots__ = ()
+    __contains__: Any = ItemsView.__contains__
     __repr__ = _shown
-
-
-def _view(view: Other, *methods: Any) -> Other:
-    for name, method in zip(_METHODS, methods, strict=True):
-        setattr(view, name, method)
-    return view
+    _from_iterable = set
 
 
 def _flat(table: SortedMap[Any]) -> list[Any]:
