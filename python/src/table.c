@@ -443,7 +443,10 @@ static __attribute__((noinline)) void shrink(Tree *tree) {
 /* Puts an entry in, whose key is not there, where one was taken out, or else after all. Takes over its references. */
 static int add(Tree *tree, Entry entry) {
     Place place = place_of(tree, &entry);
-    if (reserve(tree, 1) || make_room(tree, &place)) return -1;
+    if (reserve(tree, 1) || make_room(tree, &place)) {
+        if (!tree->size) clear(tree);
+        return -1;
+    }
     Part *part = &tree->parts[place.part];
     uint32_t *at = &part->indices[place.index];
     memmove(at + 1, at, (part->count++ - place.index) * sizeof *at);

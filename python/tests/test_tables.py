@@ -450,7 +450,8 @@ class Sorted(unittest.TestCase):
 
     @unittest.skipUnless(_testcapi, "Python's module for tests of its C API is not installed")
     def test_a_change_is_done_or_not(self):
-        """Without memory, a map is as before, also where a part is full, and no reference is kept, nor memory."""
+        """Without memory, a map is as before, also where a part is full, and no reference is kept, nor memory. An empty
+        map has none."""
         kept = [*KEYS, value := (KEYS,), other := ObjectIdentifier("2.9")]
         given = KEYS.__getitem__, itertools.repeat(value).__next__
         gc.collect()  # which frees what other tests left
@@ -464,6 +465,7 @@ class Sorted(unittest.TestCase):
             for table, found in without_memory(lambda table: call(table, *given), lambda: shrunk(start), are_all):
                 wanted = start if found in (MemoryError, SystemError) else after
                 self.assertEqual((len(wanted), wanted, False), (len(table), [*table.items()], other in table), call)
+                self.assertEqual(not wanted, sys.getsizeof(table) == sys.getsizeof(SortedMap()), call)
             table = found = wanted = None
             self.assertEqual(counts, [*map(sys.getrefcount, kept)], call)
         entries = dict.fromkeys(KEYS), 2 * [*zip(KEYS, KEYS)]
@@ -621,6 +623,15 @@ class Costs(unittest.TestCase):
             self.assertAlmostEqual(size, sys.getsizeof(table), delta=200)
             self.assertEqual((sorted(order[:left]), True), ([*table], size < held * most + 200))
             del table
+
+    def test_an_empty_map_has_no_memory(self):
+        ways = {"pop": SortedMap.pop, "del": operator.delitem, "popitem": lambda table, _: table.popitem()}
+        for count, (name, way) in itertools.product((1, 2, 7, 100), ways.items()):
+            table = SortedMap((KEYS[0].child(arc), arc) for arc in range(count))
+            for key in [*table]:
+                self.assertLess(sys.getsizeof(SortedMap()), sys.getsizeof(table))
+                way(table, key)
+            self.assertEqual(sys.getsizeof(SortedMap()), sys.getsizeof(table), name)
 
     def test_a_long_identifier_is_found_in_linear_time(self):
         """The search for a prefix makes not all prefixes of what it is given, nor of what that shares with a key."""
