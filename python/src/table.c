@@ -933,6 +933,8 @@ static __attribute__((noinline)) PyObject *walk_on(Walk *walk) {
     walk->at = walk->step == 1 ? 0 : part->count - 1;
     walk->end = walk->at + part->count * walk->step;
     walk->left -= part->count;
+    int are_far = walk->view.kind != VALUES && tree->part_count > PART; /* keys, which no cache has */
+    for (uint32_t at = 0; are_far && at < part->count; at++) __builtin_prefetch(tree->entries[part->indices[at]].key);
     return walk_next((PyObject *)walk);
 }
 
