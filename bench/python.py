@@ -70,10 +70,11 @@ octets = tracemalloc.get_traced_memory()[0] / len(made)
 tracemalloc.stop()"""
 CALLS = ["table[new] = 1; del table[new]", "table[new] = 1; table.pop(new)", "table[last] = 1; table.popitem()"]
 CALLS += ["table[oid] = 1", "table[oid]", "table.get(oid)", "table.get(new)", "oid in table", "new in table"]
-CALLS += ["table.setdefault(oid)", "table.pop(new, 0)", "table.update(one)", "table.update(ten)", "near(new)"]
-CALLS += ["after(oid)", "table.subtree(oid)"]
+CALLS += ["table.setdefault(oid)", "table.pop(new, 0)", "table.update(one)", "table.update(ten)", "near(oid)"]
+CALLS += ["near(new)", "after(oid)", "table.subtree(oid)"]
+CALLS += [f"iter(table.{view}())" for view in ("keys", "values", "items")]
 OF_ALL = ["kind(entries)", "table.update(entries)", "kind(entries).update(others)"]
-OF_ALL += ["table.copy()", "pickle.dumps(table)", "pickle.loads(pickled)"]
+OF_ALL += ["table == made", "table == entries", "table.copy()", "pickle.dumps(table)", "pickle.loads(pickled)"]
 OF_ALL += [f"drain({way}(table{view}))" for view in ("", ".values()", ".items()") for way in ("iter", "reversed")]
 
 
