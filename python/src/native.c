@@ -564,7 +564,9 @@ static int module_traverse(PyObject *module, visitproc visit, void *arg) {
 }
 
 static int module_clear(PyObject *module) {
-    Py_CLEAR(*(PyObject **)PyModule_GetState(module));
+    PyObject **walk = PyModule_GetState(module), *before = *walk;
+    *walk = NULL;
+    Py_DecRef(before);
     return 0;
 }
 
