@@ -352,6 +352,8 @@ class Sorted(unittest.TestCase):
             for value, other, wanted in values:
                 pair = SortedMap(zip(KEYS, [0, value, 2])), kind([*zip(KEYS, [0, other, 2])][::-1])
                 self.assertEqual((wanted, wanted), (pair[0] == pair[1], not pair[1] != pair[0]), (kind, value))
+            for keys in (KEYS[1:4], KEYS[:4]):
+                self.assertIs(False, SortedMap.fromkeys(KEYS[:3]) == kind(dict.fromkeys(keys).items()))
             for unequal, count in ((None, 8), (5, 6)):
                 pair = [make((key, Value(index, index != unequal)) for index, key in entries)
                         for make, entries in ((SortedMap, [*enumerate(KEYS)]), (kind, [*enumerate(KEYS)][::-1]))]
