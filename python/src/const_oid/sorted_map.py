@@ -11,6 +11,7 @@ from ._native import Items, Keys, ObjectIdentifier, Table, Values
 Key = TypeVar("Key", bound=ObjectIdentifier)
 Value = TypeVar("Value")
 Other = TypeVar("Other")
+Map = TypeVar("Map", bound="SortedMap[Any]")
 
 
 class SortedMap(Table[Value], MutableMapping[ObjectIdentifier, Value]):
@@ -109,13 +110,13 @@ class SortedMap(Table[Value], MutableMapping[ObjectIdentifier, Value]):
 
     def __reduce__(self) -> Any:
         """As of a dict: a subclass that calls it has the entries among the arguments."""
-        return _filled, (type(self), [*SortedMap.items(self)]), cast(Any, self).__getstate__()
+        return _filled, (type(self), [*SortedMap.items(self)]), getattr(self, "__getstate__")()
 
     def __reduce_ex__(self, protocol: Any) -> Any:
         """As of a dict: entries are no part of the state, which a subclass may make and take by methods of its own."""
         if type(self).__reduce__ is not SortedMap.__reduce__:
             return self.__reduce__()
-        return *_new(self), cast(Any, self).__getstate__(), None, iter([*SortedMap.items(self)])
+        return *_new(self), getattr(self, "__getstate__")(), None, iter([*SortedMap.items(self)])
 
     def __setstate__(self, state: Any) -> None:
         attributes, slots = state if isinstance(state, tuple) else (state, None)
@@ -180,11 +181,11 @@ def _filled(kind: Any, entries: Any) -> Any:
     return made
 
 
-def _made(table: Other, *sources: Any) -> Other:
+def _made(table: Map, *sources: Any) -> Map:
     """A map of the class and the state of another one, with entries of others in turn."""
-    made, state = cast(Any, object.__new__(type(table))), cast(Any, table).__getstate__()
+    made, state = object.__new__(type(table)), getattr(table, "__getstate__")()
     if state is not None:
         made.__setstate__(state)
     for entries in sources:
         Table.update(made, entries)
-    return cast(Other, made)
+    return made
