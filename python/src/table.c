@@ -755,18 +755,12 @@ static int collect_dict(PyObject *self, PyObject *given, Run *run) {
     return error ? -1 : 0;
 }
 
-/* Whether a mapping is a table or a dict, or of a subclass with the iterator of these: it is then read as it is. */
-static int is_table(PyObject *given) { return PyType_GetSlot(Py_TYPE(given), Py_tp_iter) == (void *)table_iter; }
-
-static int is_dict(PyObject *given) {
-    void *iter = PyType_GetSlot(Py_TYPE(given), Py_tp_iter);
-    return PyDict_Check(given) && iter == PyType_GetSlot(&PyDict_Type, Py_tp_iter);
-}
-
-/* Appends the entries of a mapping or an iterable. */
+/* Appends the entries of a mapping or an iterable. As dict does, it takes those of a table or a dict, or of a subclass
+ * with the iterator of these, as they are. */
 static int collect(PyObject *self, PyObject *given, Run *run) {
-    if (is_table(given)) return append_all(&((Table *)given)->tree, (Place){0, 0, 0}, NULL, run);
-    if (is_dict(given)) return collect_dict(self, given, run);
+    void *iter = PyType_GetSlot(Py_TYPE(given), Py_tp_iter);
+    if (iter == (void *)table_iter) return append_all(&((Table *)given)->tree, (Place){0, 0, 0}, NULL, run);
+    if (PyDict_Check(given) && iter == PyType_GetSlot(&PyDict_Type, Py_tp_iter)) return collect_dict(self, given, run);
     OWNED *method = attribute(given, "keys");
     if (!method && !PyErr_ExceptionMatches(PyExc_AttributeError)) return -1;
     PyErr_Clear();
@@ -866,13 +860,14 @@ static int are_equal(const Run *pairs, int found) {
     return found;
 }
 
-/* None if code of Python runs to read the other one. Their values may change both, of which all is read before. */
+/* None if the other one is neither a table nor a dict, nor of a subclass, all of which are read as they are. Their
+ * values may change both, of which all is read before. */
 static PyObject *table_equals(PyObject *self, PyObject *other) {
     const Tree *tree = &((Table *)self)->tree;
     Run pairs = {0};
     int found;
-    if (is_table(other)) found = pair_values(tree, &((Table *)other)->tree, &pairs);
-    else if (is_dict(other)) found = pair_dict(tree, other, &pairs);
+    if (base_by(Py_TYPE(other), table_dealloc)) found = pair_values(tree, &((Table *)other)->tree, &pairs);
+    else if (PyDict_Check(other)) found = pair_dict(tree, other, &pairs);
     else return Py_NewRef(Py_None);
     found = are_equal(&pairs, found);
     drop(&pairs);

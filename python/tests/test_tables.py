@@ -251,7 +251,7 @@ OF_DICT |= COPYING | {call.__name__: call for call in (len, list, repr, reversed
 OF_DICT |= {name: lambda one, name=name: [*getattr(one, name)()] for name in ("keys", "values", "items")}
 OF_DICT |= {f"back, {name}": lambda one, name=name: [*reversed(getattr(one, name)())] for name in ("values", "items")}
 OF_DICT |= {"fromkeys": lambda one: type(one).fromkeys(KEYS), "all": lambda one: type(one).__base__(one)}
-OF_DICT["=="] = lambda one: one == {KEYS[2]: 2}
+OF_DICT |= {"==": lambda one: one == {KEYS[2]: 2}, "== itself": lambda one: one == one}
 # Methods that only one of both calls where a subclass has them: copies of a map have its class, state and entries.
 OWN_OF_ONE = {("__getstate__", "copy()"), ("__getstate__", "|"), ("items", "copy"), ("items", "copies")}
 # What a subclass makes of itself for copies and pickles, with entries in other places, or without them.

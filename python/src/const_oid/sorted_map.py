@@ -84,10 +84,8 @@ class SortedMap(Table[Value], MutableMapping[ObjectIdentifier, Value]):
     def __eq__(self, other: object) -> bool:
         if not isinstance(other, Mapping):
             return NotImplemented
-        if super().__len__() != len(other):
-            return False
         equals = super()._equals(other)
-        if equals is None:
+        if equals is None and super().__len__() == len(other):
             are_keys = False not in [issubclass(type(key), ObjectIdentifier) for key in [*other]]
             equals = are_keys and super()._equals(SortedMap(other))
         return bool(equals)
