@@ -47,12 +47,16 @@ static PyObject *names_of(PyObject *type, PyObject *oid) {
     return PyErr_Occurred() ? NULL : PyList_AsTuple(names);
 }
 
-/* Raises the error of a typed text, with what comes after its prefix. */
-static PyObject *raise_typed(PyObject *type, const_oid_status status, const char *text, size_t len) {
+/* Raises the error of a typed text, with what comes after its prefix. Python makes no UTF-8 of a surrogate, so the wrong
+ * component is that of a text without any. */
+static PyObject *raise_typed(PyObject *type, const_oid_status status, PyObject *text, const char *typed, size_t len) {
     const_oid_range bare;
-    size_t bare_len = const_oid_bare_text(text, len, &bare).len;
-    OWNED *given = PyUnicode_DecodeUTF8(text + bare.start, (Py_ssize_t)bare_len, "surrogatepass");
-    return given ? raise_component(type, status, given) : NULL;
+    size_t bare_len = const_oid_bare_text(typed, len, &bare).len;
+    OWNED *given = PyUnicode_DecodeUTF8(typed + bare.start, (Py_ssize_t)bare_len, "surrogatepass");
+    OWNED *replaced = given ? PyUnicode_AsEncodedString(text, "utf-8", "replace") : NULL;
+    if (!replaced) return NULL;
+    status.len = const_oid_parse(PyBytes_AsString(replaced), (size_t)PyBytes_Size(replaced), NULL, 0).len;
+    return raise_component(type, status, given);
 }
 
 static PyObject *parse(PyObject *type, PyObject *text) {
@@ -61,7 +65,7 @@ static PyObject *parse(PyObject *type, PyObject *text) {
     const char *typed = PyBytes_AsString(bytes);
     size_t len = (size_t)PyBytes_Size(bytes);
     const_oid_status status = const_oid_parse(typed, len, NULL, 0);
-    if (status.code != CONST_OID_OUTPUT_TOO_SHORT) return raise_typed(type, status, typed, len);
+    if (status.code != CONST_OID_OUTPUT_TOO_SHORT) return raise_typed(type, status, text, typed, len);
     OWNED *octets = PyBytes_FromStringAndSize(NULL, (Py_ssize_t)status.len);
     if (!octets) return NULL;
     uint8_t *out = (uint8_t *)PyBytes_AsString(octets);

@@ -47,6 +47,7 @@ WRONG = [
     (names.parse, 4, "no identifier has this name", {"no name.1": (110, 0), "x": (120, 0)}),
     (names.parse, 4, "expected digit, got 'x'", {"sysUpTime.x": (120, 1), "ANSI X9.62.x": (120, 1), "1.x": (120, 1)}),
     (ObjectIdentifier, 11, "the text is not UTF-8", {"1.\ud800": (0, 1), "1.2.\ud800": (0, 2)}),
+    (names.parse, 11, "the text is not UTF-8", {"cn.\ud800": (0, 1), "1.2.\ud800": (0, 2), "c\ud800": (0, 0)}),
     (from_bytes, 3, "OID contains arc with invalid base 128 encoding", {b"\x2a\x80\x01": (0, None)}),
     (from_der, 14, "the tag is not 6", {b"": (0, None), b"\x26\1\x2a": (0, None)}),
     (from_der, 14, "octets come after the element", {b"\6\1\x2a" + bytes(count): (0, None) for count in (1, 2, 3)}),

@@ -131,7 +131,7 @@ class OidError(ValueError):
         >>> [OidError(Code.TRAILING_DOT, 0, text).piece for text in ("3.", "1.2.")]
         [0, 1]
         """
-        if isinstance(self.given, str) and (self._piece is None or self.code is Code.NOT_UTF8):
+        if isinstance(self.given, str) and self._piece is None:
             return wrong_component(self.given.encode(errors="replace"))
         return self._piece
 

@@ -159,8 +159,11 @@ pub const fn by_oid(oid: &ObjectIdentifier) -> Option<&'static str> {
 }
 
 /// Parses what people type and paste: dotted text, a name, or a name and arcs. [`display`] is the way back.
+/// [`Tables::parse`] says what a text may be.
 ///
-/// [`Tables::parse`] says what a text may be, and has its errors.
+/// # Errors
+///
+/// Those of [`Tables::parse`].
 ///
 /// # Examples
 ///
