@@ -1,4 +1,4 @@
-//! Calls of the crate `oid`, each of which `size` links alone, and all but the tables together.
+//! Calls of the crate `oid`, each of which `size` links alone, or with others of its block.
 #![no_std]
 use core::cmp::Ordering;
 use core::fmt::{self, Write};
@@ -40,4 +40,15 @@ rows! { "all":
 rows! { "both tables":
     "DB.by_oid" call_db(oid: &Oid) -> Option<&'static str> { oid::db::DB.by_oid(oid) }
     "SORTED.by_oid" call_sorted(oid: &Oid) -> Option<&'static str> { oid::db::SORTED.by_oid(oid.as_oid_ref()) }
+}
+
+rows! { "names":
+    "db::by_name" call_by_name(name: &str) -> Option<&'static Oid> { oid::db::by_name(name) }
+    "db::by_oid" call_by_oid(oid: &Oid) -> Option<&'static str> { oid::db::by_oid(oid) }
+    "db::parse" call_parse(text: &str) -> Result<Oid> { oid::db::parse(text) }
+    "db::display" call_named(oid: &Oid, out: &mut dyn Write) -> fmt::Result { write!(out, "{}", oid::db::display(oid)) }
+}
+
+rows! { "nearest":
+    "db::nearest" call_nearest(oid: &Oid) -> Option<&'static str> { oid::db::nearest(oid).map(|entry| entry.1) }
 }
