@@ -334,7 +334,7 @@ static const Entry *entry_up_to(const Tree *tree, Place place) {
 }
 
 /* The most keys of a part. They grow with the number of parts, all of which may have to move for one more. */
-static uint32_t most_of(const Tree *tree) { return tree->part_count < 32 * PART ? PART : tree->part_count / 32; }
+static uint32_t most_of(const Tree *tree) { return tree->part_count < 32 * PART ? PART : tree->part_count / 16; }
 
 /* Gives a part room for at least one index more than a count: for a multiple of eight, which is 32 octets. */
 static int resize(Part *part, uint32_t count) {
