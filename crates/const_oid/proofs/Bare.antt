@@ -24,4 +24,4 @@ at_range text begun ended p is_begun is_ended is_prefix within =
     let whole = ap (λ k. take k begun) (ap length is_ended ∙ length-take n begun) ∙ take_min n begun ∙ sym is_ended in
     let trimmed = is_ended ∙ ap (λ b. take (length b - suffix_len is_ascii_whitespace b) b) is_begun in
     rw start (cut text m (length ended) p within ∙ ap (λ b. drop p (take (length ended) b)) (sym is_begun) ∙ ap (drop p) whole
-      ∙ ap (λ k. drop k ended) is_prefix ∙ ap (λ t. drop (prefix_of t) t) trimmed)
+    ∙ ap (λ k. drop k ended) is_prefix ∙ ap (λ t. drop (prefix_of t) t) trimmed)

@@ -1,14 +1,13 @@
 -- What is displayed, and that it is read back.
 use Rattle.std.proofs.Common.{◌≡◌, ℕ, zero, suc, ◌≤◌, true, false, List, [], ◌∷◌, ◌++◌, length, take, drop, nat_eq}
 use Rattle.std.proofs.Common.{refl, sym, ap, ◌∙◌, ⊎_elim, if◌then◌else◌, Option, Some, None, Ok}
-use Rattle.std.specs.Borrow.{Bor}
 use Rattle.std.specs.Cmp.Lexicographic.{pointwise}
 use Rattle.std.specs.Option.{option_and_then, option_map_or}
 use Rattle.std.proofs.lemmas.{Bool.cases_Bool, List.take-append-drop}
 use Rattle.const_oid.specs.Identifier.{root_rule, size, IsIdentifier}
-use Rattle.const_oid.specs.Names.{first_name, lent_arcs}
+use Rattle.const_oid.specs.Rows.{Rows, led, named}
 use Rattle.const_oid.specs.Text.{text_answer, text_of}
-use Rattle.const_oid.specs.Typed.{displayed, displayed_up_to, dotted, led, shown, typed_answer, AreReadable, Entries}
+use Rattle.const_oid.specs.Typed.{displayed, displayed_up_to, dotted, shown, typed_answer, AreReadable}
 use Rattle.const_oid.proofs.{BareTexts.{bare_text_of, text_begins_with_digit}, Hashes.same_bytes, SpeltOut.name_answer}
 use Rattle.const_oid.proofs.Texts.{arcs_small, text_denotes, text_fault-none, AreArcs}
 
@@ -28,22 +27,19 @@ leads_by arcs name shown None is = cc
 leads_by arcs name shown (Some other) is = let (same, leads) = leads_if arcs name shown other is in (same, ap Some leads)
 
 -- it is that of an entry, and leads to its arcs
-pub record IsShown (entries : Entries) (arcs name : List ℕ) (found : Option (Bor (List ℕ))) : Type 0 where
-  pub lent : Bor (List ℕ)
-  pub first : found ≡ Some lent
-  pub same : lent.now ≡ name
+pub record IsShown (entries : Rows) (arcs name : List ℕ) (found : Option (List ℕ)) : Type 0 where
+  pub first : found ≡ Some name
   pub leads : led entries name ≡ Some arcs
 
-shown_of : (entries : Entries) (arcs name : List ℕ) (found : Option (Bor (List ℕ)))
-    → option_and_then (λ shown. option_and_then (shown_if arcs shown.now) (led entries shown.now)) found ≡ Some name → IsShown entries arcs name found
+shown_of : (entries : Rows) (arcs name : List ℕ) (found : Option (List ℕ))
+    → option_and_then (λ shown. option_and_then (shown_if arcs shown) (led entries shown)) found ≡ Some name → IsShown entries arcs name found
 shown_of entries arcs name None is = cc
 shown_of entries arcs name (Some shown) is =
-    let (same, leads) = leads_by arcs name shown.now (led entries shown.now) is in
-    record { lent = shown; first = refl; same = same; leads = rw same at leads }
+    let (same, leads) = leads_by arcs name shown (led entries shown) is in
+    record { first = ap Some same; leads = rw same at leads }
 
-pub is_shown : (entries : Entries) (arcs name : List ℕ) → shown entries arcs ≡ Some name
-    → IsShown entries arcs name (first_name lent_arcs entries arcs)
-is_shown entries arcs name is = shown_of entries arcs name (first_name lent_arcs entries arcs) is
+pub is_shown : (entries : Rows) (arcs name : List ℕ) → shown entries arcs ≡ Some name → IsShown entries arcs name (named entries arcs)
+is_shown entries arcs name is = shown_of entries arcs name (named entries arcs) is
 
 -- ---- what is displayed
 
@@ -57,7 +53,7 @@ small_parts : (begun more : List ℕ) → AreArcs (begun ++ more) → AreArcs mo
 small_parts [] more small = small
 small_parts (arc ∷ begun) more small = small_parts begun more small.1
 
-dotted_answer : (entries : Entries) (arcs : List ℕ) (capacity : ℕ) → IsIdentifier root_rule arcs
+dotted_answer : (entries : Rows) (arcs : List ℕ) (capacity : ℕ) → IsIdentifier root_rule arcs
     → typed_answer entries (text_of arcs) capacity ≡ text_answer root_rule (text_of arcs) capacity
 dotted_answer entries [] capacity identifier = absurd identifier
 dotted_answer entries (arc ∷ later) capacity identifier =
@@ -69,7 +65,7 @@ by_cases : (P : List ℕ → Type 0) (change : List ℕ → List ℕ) (found : O
 by_cases P change None default there none = none
 by_cases P change (Some name) default there none = there name refl
 
-module _ (entries : Entries) (arcs : List ℕ) (capacity : ℕ) (readable : AreReadable entries) (identifier : IsIdentifier root_rule arcs) (fits : size arcs ≤ capacity) where
+module _ (entries : Rows) (arcs : List ℕ) (capacity : ℕ) (readable : AreReadable entries) (identifier : IsIdentifier root_rule arcs) (fits : size arcs ≤ capacity) where
   abbrev IsRead : List ℕ → Type 0
   IsRead text = typed_answer entries text capacity ≡ Ok arcs
 

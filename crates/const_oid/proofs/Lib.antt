@@ -12,6 +12,7 @@ pub mod ByWords
 pub mod BeginsWith
 pub mod Items
 pub mod TakesItems
+pub mod NearestRows
 pub mod Numbers
 pub mod Decimals
 pub mod Texts
@@ -36,6 +37,7 @@ pub mod Prefixes
 pub mod Plain
 pub mod Printed
 pub mod Subtree
+pub mod RowLookups
 pub mod Runs
 pub mod Linked
 pub mod SortedLists

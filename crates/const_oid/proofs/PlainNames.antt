@@ -1,19 +1,17 @@
 -- Plain names, which are readable.
-use Rattle.std.proofs.Common.{true, add-one, ap, sym, ◌∙◌, Bool, suc, decimal, find, Option, Some, None}
-use Rattle.std.specs.{Char.{is_ascii_digit, to_ascii_lowercase}, Option.option_map, Str.{bytes_eq, str_to_ascii_lowercase}}
+use Rattle.std.proofs.Common.{true, nat_eq, add-one, ap, sym, ◌∙◌, Bool, suc, decimal, find, Option, Some, None}
+use Rattle.std.specs.{Char.{is_ascii_digit, to_ascii_lowercase}, Option.option_map, Cmp.Lexicographic.pointwise, Str.{bytes_eq, str_eq_ignore_ascii_case, str_to_ascii_lowercase}}
 use Rattle.std.proofs.lemmas.Bool.Decides.{nat_tests}
 use Rattle.std.proofs.Common.{◌≡◌, ℕ, ◌<◌, ◌≤◌, ◌+◌, List, [], ◌∷◌, ◌++◌, length, take, get_or, All, false, flat_map, refl, arith, ⊎_elim}
-use Rattle.std.specs.Borrow.{Bor}
 use Rattle.std.proofs.lemmas.{Bool.{cases_Bool, cases_lt, false≢true}, List.{drop_at, get_or_past, take_all, take_at}}
 use Rattle.std.proofs.lemmas.List.Elements.{All-append, All-cons, All-drop, All-get_or, All-head, All-more, All-nil, All-tail, All-take}
-use Rattle.const_oid.specs.declared.db.Database.{Database}
-use Rattle.const_oid.specs.declared.oid.ObjectIdentifier.{ObjectIdentifier}
-use Rattle.const_oid.specs.Names.{entries_of, first_oid, has_arcs, has_name, lent_arcs, oid_of, name_of, Entry}
-use Rattle.const_oid.specs.Typed.{begins_with_digit, is_front, ArePlain, AreReadable, Entries, HasNoFront, IsPlain, IsReadable, dotted, led, shown}
+use Rattle.const_oid.specs.declared.tables.Table.{Table}
+use Rattle.const_oid.specs.{Oid.oid_arcs, Rows.{Row, Rows, led, rows_of}}
+use Rattle.const_oid.specs.Typed.{begins_with_digit, is_front, ArePlain, AreReadable, HasNoFront, IsPlain, IsReadable, dotted, shown}
 use Rattle.const_oid.proofs.{Displayed.is_shown, Dotted.digit_begins, Hashes.same_bytes}
 
 -- no front is past the end
-pub all_fronts : (entries : Entries) (name : List ℕ) (end : ℕ) → length name ≤ end → ((n : ℕ) → n < end → is_front entries name n ≡ false)
+pub all_fronts : (entries : Rows) (name : List ℕ) (end : ℕ) → length name ≤ end → ((n : ℕ) → n < end → is_front entries name n ≡ false)
     → HasNoFront entries name
 all_fronts entries name end past none n = ⊎_elim
     (λ (below : n < end). none n below)
@@ -22,38 +20,38 @@ all_fronts entries name end past none n = ⊎_elim
 
 -- ---- in all tables
 
-module _ (entries : Entries) where
-  abbrev EachPlain : List Database → Type 0
-  EachPlain tables = All (λ table. ArePlain entries (entries_of table)) tables
+module _ (entries : Rows) where
+  abbrev EachPlain : List Table → Type 0
+  EachPlain tables = All (λ table. ArePlain entries (rows_of table)) tables
 
-  abbrev Plain : Entry (Bor (ObjectIdentifier 39)) → Type 0
-  Plain entry = IsPlain entries (name_of entry).now
+  abbrev Plain : Row → Type 0
+  Plain row = IsPlain entries row.1
 
-  joined : (tables : List Database) → EachPlain tables → ArePlain entries (flat_map entries_of tables)
+  joined : (tables : List Table) → EachPlain tables → ArePlain entries (flat_map rows_of tables)
   joined [] each = All-nil Plain
   joined (table ∷ tables) each =
-      All-append Plain (entries_of table) (flat_map entries_of tables) (All-head (λ table. ArePlain entries (entries_of table)) table tables each)
-      (joined tables (All-tail (λ table. ArePlain entries (entries_of table)) table tables each))
+      All-append Plain (rows_of table) (flat_map rows_of tables) (All-head (λ table. ArePlain entries (rows_of table)) table tables each)
+      (joined tables (All-tail (λ table. ArePlain entries (rows_of table)) table tables each))
 
-  apart : (tables : List Database) → ArePlain entries (flat_map entries_of tables) → EachPlain tables
-  apart [] all = All-nil (λ table. ArePlain entries (entries_of table))
+  apart : (tables : List Table) → ArePlain entries (flat_map rows_of tables) → EachPlain tables
+  apart [] all = All-nil (λ table. ArePlain entries (rows_of table))
   apart (table ∷ tables) all =
-      let first = entries_of table in
-      let rest = flat_map entries_of tables in
-      All-cons (λ table. ArePlain entries (entries_of table)) table tables
+      let first = rows_of table in
+      let rest = flat_map rows_of tables in
+      All-cons (λ table. ArePlain entries (rows_of table)) table tables
       (rw (take_at first rest (length first) refl) at (All-take Plain (length first) (first ++ rest) all))
       (apart tables (rw (drop_at first rest (length first) refl) at (All-drop Plain (length first) (first ++ rest) all)))
 
-  module _ (tables : List Database) (i : ℕ) where
-    pub all_plain : length tables ≤ i → EachPlain (take i tables) → ArePlain entries (flat_map entries_of tables)
+  module _ (tables : List Table) (i : ℕ) where
+    pub all_plain : length tables ≤ i → EachPlain (take i tables) → ArePlain entries (flat_map rows_of tables)
     all_plain end each = joined tables (rw (take_all i tables end) at each)
 
-    module _ (table : Database) (below : i < length tables) (here : table ≡ get_or tables i table) where
-      pub one_more : ArePlain entries (entries_of table) → EachPlain (take i tables) → EachPlain (take (i + 1) tables)
-      one_more this before = All-more (λ table. ArePlain entries (entries_of table)) tables i table below before (rw (← here) this)
+    module _ (table : Table) (below : i < length tables) (here : table ≡ get_or tables i table) where
+      pub one_more : ArePlain entries (rows_of table) → EachPlain (take i tables) → EachPlain (take (i + 1) tables)
+      one_more this before = All-more (λ table. ArePlain entries (rows_of table)) tables i table below before (rw (← here) this)
 
-      pub all_there : ArePlain entries (flat_map entries_of tables) → ArePlain entries (entries_of table)
-      all_there all = rw here (All-get_or (λ table. ArePlain entries (entries_of table)) tables i table below (apart tables all))
+      pub all_there : ArePlain entries (flat_map rows_of tables) → ArePlain entries (rows_of table)
+      all_there all = rw here (All-get_or (λ table. ArePlain entries (rows_of table)) tables i table below (apart tables all))
 
 -- ---- readable
 
@@ -81,14 +79,14 @@ module _ {X : Type 0} (P : X → Type 0) (test : X → Bool) where
       (cases_Bool (test first))
 
 -- what a name leads to is the same in any case
-led_alike : (entries : Entries) (name other : List ℕ) → str_to_ascii_lowercase other ≡ str_to_ascii_lowercase name → led entries other ≡ led entries name
+led_alike : (entries : Rows) (name other : List ℕ) → str_to_ascii_lowercase other ≡ str_to_ascii_lowercase name → led entries other ≡ led entries name
 led_alike entries name other same =
-    ap (λ lower. option_map lent_arcs (option_map oid_of (find (λ entry. bytes_eq (str_to_ascii_lowercase (name_of entry).now) lower) entries))) same
+    ap (λ lower. option_map (λ row. oid_arcs row.0) (find (λ (row : Row). bytes_eq (str_to_ascii_lowercase row.1) lower) entries)) same
 
 same_digit : (a b : ℕ) → to_ascii_lowercase a ≡ to_ascii_lowercase b → is_ascii_digit b ≡ true → is_ascii_digit a ≡ true
 same_digit a b same digit = grind (arith, nat_tests)
 
-front_is : (entries : Entries) (name arcs more other : List ℕ) → begins_with_digit more ≡ true → led entries name ≡ Some arcs
+front_is : (entries : Rows) (name arcs more other : List ℕ) → begins_with_digit more ≡ true → led entries name ≡ Some arcs
     → str_to_ascii_lowercase other ≡ str_to_ascii_lowercase (name ++ 46 ∷ more) → is_front entries other (length name) ≡ true
 front_is entries name arcs more other digit leads same =
     let (front, here, after) = fronts_alike name other more same in
@@ -99,22 +97,22 @@ mapped : {X Y : Type 0} (f : X → Y) (found : Option X) (y : Y) → option_map 
 mapped f None y is = cc
 mapped f (Some x) y is = (x, refl, cc)
 
-module _ (entries : Entries) (plain : ArePlain entries entries) where
+module _ (entries : Rows) (plain : ArePlain entries entries) where
   shown_readable : (arcs name : List ℕ) → shown entries arcs ≡ Some name → IsReadable name
   shown_readable arcs name is =
       let shown = is_shown entries arcs name is in
-      let (entry, first, named) = mapped name_of (find (has_arcs lent_arcs arcs) entries) shown.lent shown.first in
-      let (this, has) = found (Plain entries) (has_arcs lent_arcs arcs) entries entry plain first in
-      rw (named, shown.same) at this.readable
+      let has_arcs = λ (row : Row). pointwise nat_eq (oid_arcs row.0) arcs in
+      let (row, first, same) = mapped (λ row. row.1) (find has_arcs entries) name shown.first in
+      let (this, has) = found (Plain entries) has_arcs entries row plain first in
+      rw same at this.readable
 
   no_name_below : (name arcs more other : List ℕ) → begins_with_digit more ≡ true → led entries name ≡ Some arcs
       → led entries (name ++ 46 ∷ more) ≡ Some other → ⊥
   no_name_below name arcs more other digit leads is =
-      let text = name ++ 46 ∷ more in
-      let (oid, first, _) = mapped lent_arcs (first_oid entries text) other is in
-      let (entry, there, _) = mapped oid_of (find (has_name text) entries) oid first in
-      let (this, has) = found (Plain entries) (has_name text) entries entry plain there in
-      let front = front_is entries name arcs more (name_of entry).now digit leads (same_bytes _ _ has) in
+      let has_name = λ (row : Row). str_eq_ignore_ascii_case row.1 (name ++ 46 ∷ more) in
+      let (row, there, _) = mapped (λ row. oid_arcs row.0) (find has_name entries) other is in
+      let (this, has) = found (Plain entries) has_name entries row plain there in
+      let front = front_is entries name arcs more row.1 digit leads (same_bytes _ _ has) in
       false≢true (sym (this.no_front (length name)) ∙ front)
 
   pub plain_readable : AreReadable entries

@@ -1,23 +1,18 @@
 -- Names that are shown: only the arcs of some entry have one, and it leads back to them.
-use Rattle.std.proofs.Common.{◌≡◌, ℕ, zero, suc, ◌-◌, ◌<◌, List, [], ◌∷◌, ◌++◌, append_assoc, length, take, drop, true, false, nat_eq, arith, ap, sym, refl, ◌∙◌, ⊎_elim, Some, None}
-use Rattle.std.specs.Borrow.{Bor}
+use Rattle.std.proofs.Common.{◌≡◌, ℕ, zero, suc, ◌-◌, ◌<◌, List, [], ◌∷◌, ◌++◌, append_assoc, length, take, drop, Bool, true, false, nat_eq, arith, ap, sym, refl, ◌∙◌, ⊎_elim, Some, None}
 use Rattle.std.specs.Prelude.{find, if◌then◌else◌, Option}
 use Rattle.std.specs.Option.{option_map_or}
 use Rattle.std.specs.Cmp.Lexicographic.{pointwise, same_text}
 use Rattle.std.proofs.lemmas.{Bool.cases_Bool, Bool.Decides.nat_tests, Grind.common_steps}
-use Rattle.const_oid.specs.declared.oid.ObjectIdentifier.{ObjectIdentifier}
 use Rattle.const_oid.specs.Identifier.{IsEncoding, IsIdentifier, root_rule}
-use Rattle.const_oid.specs.Names.{Entry, first_name, first_oid, has_arcs, lent_arcs, oid_of}
-use Rattle.const_oid.specs.Oid.{oid_octets}
+use Rattle.const_oid.specs.Oid.{oid_arcs, oid_octets}
+use Rattle.const_oid.specs.Rows.{Row, Rows, led, named}
 use Rattle.const_oid.specs.{Text.text_of, Tree.{BeginsWith, parent_of}, Typed.{displayed_up_to, dotted, shown}}
 use Rattle.std.proofs.Math.Seq.{take-append_seam}
 use Rattle.std.proofs.lemmas.List.{length-take-le, take-append-drop}
 use Rattle.const_oid.proofs.{Encodings.{oid_encoding}, Identifiers.oid_within}
 
-abbrev pub Lent : Type 0
-Lent = Entry (Bor (ObjectIdentifier 39))
-
-itself : (arcs : List ℕ) → pointwise nat_eq arcs arcs ≡ true
+pub itself : (arcs : List ℕ) → pointwise nat_eq arcs arcs ≡ true
 itself [] = refl
 itself (arc ∷ arcs) = grind (arith, nat_tests, itself arcs)
 
@@ -27,41 +22,43 @@ apart a b other = ⊎_elim
     (λ (unequal : pointwise nat_eq a b ≡ false). unequal)
     (cases_Bool (pointwise nat_eq a b))
 
-step : (entries : List Lent) (arcs : List ℕ) (n : ℕ) → 0 < n → displayed_up_to entries arcs n
+step : (entries : Rows) (arcs : List ℕ) (n : ℕ) → 0 < n → displayed_up_to entries arcs n
     ≡ option_map_or (λ name. name ++ dotted (drop n arcs)) (shown entries (take n arcs)) (displayed_up_to entries arcs (n - 1))
 step entries arcs zero some = absurd (omega arith)
 step entries arcs (suc n) some = let e : suc n - 1 ≡ n = omega arith in rw e refl
 
 module _ (arcs : List ℕ) where
+  abbrev pub has_arcs : Row → Bool
+  has_arcs row = pointwise nat_eq (oid_arcs row.0) arcs
+
   -- an entry that is found has the arcs
-  found_arcs : (entries : List Lent) (entry : Lent) → find (has_arcs lent_arcs arcs) entries ≡ Some entry → lent_arcs (oid_of entry) ≡ arcs
+  pub found_arcs : (entries : Rows) (entry : Row) → find (has_arcs) entries ≡ Some entry → oid_arcs entry.0 ≡ arcs
   found_arcs [] entry e = cc
-  found_arcs (first ∷ others) entry e = grind (arith, nat_tests, common_steps, same_text (lent_arcs (oid_of first)) arcs, found_arcs others entry)
+  found_arcs (first ∷ others) entry e = grind (arith, nat_tests, common_steps, same_text (oid_arcs first.0) arcs, found_arcs others entry)
 
   -- arcs that no entry can have have no name
-  pub unnamed : (entries : List Lent) → ((octets : List ℕ) → IsEncoding root_rule arcs octets → 39 < length octets) → None ≡ shown entries arcs
-  unnamed entries long = by (find (has_arcs lent_arcs arcs) entries) refl
+  pub unnamed : (entries : Rows) → ((octets : List ℕ) → IsEncoding root_rule arcs octets → 39 < length octets) → None ≡ shown entries arcs
+  unnamed entries long = by (find (has_arcs) entries) refl
     where
-      by : (found : Option Lent) → find (has_arcs lent_arcs arcs) entries ≡ found → None ≡ shown entries arcs
+      by : (found : Option Row) → find (has_arcs) entries ≡ found → None ≡ shown entries arcs
       by None e = rw e refl
       by (Some entry) e =
-          let oid = (oid_of entry).now in
+          let oid = entry.0 in
           absurd (omega (arith, oid_within oid, long (oid_octets oid) (rw (found_arcs entries entry e) at (oid_encoding oid))))
 
-  module _ (entries : List Lent) (name : Bor (List ℕ)) (oid : Bor (ObjectIdentifier 39))
-      (named : first_name lent_arcs entries arcs ≡ Some name) (leads : first_oid entries name.now ≡ Some oid) where
-    shown_is : shown entries arcs ≡ (if pointwise nat_eq (lent_arcs oid) arcs then Some name.now else None)
-    shown_is = rw (named, leads) refl
+  module _ (entries : Rows) (name other : List ℕ) (first : named entries arcs ≡ Some name) (leads : led entries name ≡ Some other) where
+    shown_is : shown entries arcs ≡ (if pointwise nat_eq other arcs then Some name else None)
+    shown_is = rw (first, leads) refl
 
-    pub shown_name : lent_arcs oid ≡ arcs → Some name.now ≡ shown entries arcs
-    shown_name same = sym (shown_is ∙ ap (λ b. if b then Some name.now else None) (ap (λ other. pointwise nat_eq other arcs) same ∙ itself arcs))
+    pub shown_name : other ≡ arcs → Some name ≡ shown entries arcs
+    shown_name same = sym (shown_is ∙ ap (λ b. if b then Some name else None) (ap (λ other. pointwise nat_eq other arcs) same ∙ itself arcs))
 
-    pub shown_none : (lent_arcs oid ≡ arcs → ⊥) → None ≡ shown entries arcs
-    shown_none other = sym (shown_is ∙ ap (λ b. if b then Some name.now else None) (apart (lent_arcs oid) arcs other))
+    pub shown_none : (other ≡ arcs → ⊥) → None ≡ shown entries arcs
+    shown_none unequal = sym (shown_is ∙ ap (λ b. if b then Some name else None) (apart other arcs unequal))
 
 -- ---- the longest prefix with a name
 
-module _ (entries : List Lent) (arcs prefix : List ℕ) (begins : BeginsWith arcs prefix) where
+module _ (entries : Rows) (arcs prefix : List ℕ) (begins : BeginsWith arcs prefix) where
   front : take (length prefix) arcs ≡ prefix
   front = rw begins.1 (take-append_seam prefix begins.0)
 
@@ -78,12 +75,12 @@ module _ (entries : List Lent) (arcs prefix : List ℕ) (begins : BeginsWith arc
       (ap (shown entries) front ∙ sym is)
 
 -- a single arc has no name, and no arc neither
-one_unnamed : (entries : List Lent) (arcs : List ℕ) (arc : ℕ) → BeginsWith arcs (arc ∷ []) → displayed_up_to entries arcs 1 ≡ text_of arcs
+one_unnamed : (entries : Rows) (arcs : List ℕ) (arc : ℕ) → BeginsWith arcs (arc ∷ []) → displayed_up_to entries arcs 1 ≡ text_of arcs
 one_unnamed entries arcs arc begins =
     displayed_less entries arcs (arc ∷ []) begins (omega arith) (unnamed (arc ∷ []) entries (λ octets e. absurd e.identifier))
 
 -- below the first two arcs there are none
-pub displayed_none : (entries : List Lent) (arcs prefix octets : List ℕ) → BeginsWith arcs prefix → IsEncoding root_rule prefix octets
+pub displayed_none : (entries : Rows) (arcs prefix octets : List ℕ) → BeginsWith arcs prefix → IsEncoding root_rule prefix octets
     → None ≡ parent_of prefix → None ≡ shown entries prefix → displayed_up_to entries arcs (length prefix) ≡ text_of arcs
 displayed_none entries arcs (a ∷ b ∷ []) octets begins e none is =
     displayed_less entries arcs (a ∷ b ∷ []) begins (omega arith) is
@@ -91,7 +88,7 @@ displayed_none entries arcs (a ∷ b ∷ []) octets begins e none is =
 displayed_none entries arcs (a ∷ b ∷ c ∷ later) octets begins e none is = grind (arith, nat_tests)
 displayed_none entries arcs _ octets begins e none is = absurd e.identifier
 
-parent_is : (prefix parent : List ℕ) → Some parent ≡ parent_of prefix → (parent ≡ take (length prefix - 1) prefix) × (2 < length prefix)
+pub parent_is : (prefix parent : List ℕ) → Some parent ≡ parent_of prefix → (parent ≡ take (length prefix - 1) prefix) × (2 < length prefix)
 parent_is prefix parent is = (grind (arith, nat_tests), grind (arith, nat_tests))
 
 -- a parent is a prefix with an arc less

@@ -1,16 +1,14 @@
 -- A name and arcs, spelt out: the arcs of the name in its place.
 use Rattle.std.proofs.Common.{◌≡◌, ℕ, zero, suc, ◌+◌, ◌<◌, ◌≤◌, ◌==◌, ◌&&◌, ◌||◌, Bool, true, false, List, [], ◌∷◌, ◌++◌, length, take, get_or}
 use Rattle.std.proofs.Common.{refl, sym, ap, ◌∙◌, ◌⊎◌, inl, inr, ⊎_elim, arith, add-one, add-suc, add-zero, append-nil, append_assoc, length-append, nat_lt, Option, Some, None}
-use Rattle.std.specs.Borrow.{Bor}
-use Rattle.std.specs.Option.{option_map, option_or}
+use Rattle.std.specs.{List.find, Option.{option_map, option_or}, Str.str_eq_ignore_ascii_case}
 use Rattle.std.proofs.lemmas.Bool.{and_parts, cases_Bool, eq-eqb, eqb-true, lt-ltb, or_cases, or_left, or_right}
 use Rattle.std.proofs.lemmas.List.{get_or_append_left, get_or_at, get_or-append-add, take_at, drop_at}
 use Rattle.std.proofs.Math.Seq.{take-append-add, drop-append-add}
-use Rattle.const_oid.specs.declared.oid.ObjectIdentifier.{ObjectIdentifier}
 use Rattle.const_oid.specs.Identifier.{root_rule, IsIdentifier}
-use Rattle.const_oid.specs.Names.{first_oid, lent_arcs}
+use Rattle.const_oid.specs.{Oid.oid_arcs, Rows.{Row, Rows, led}}
 use Rattle.const_oid.specs.Text.{dot, text_answer, text_of}
-use Rattle.const_oid.specs.Typed.{dotted, led, spelt_at, spelt_out, spelt_up_to, typed_answer, Entries, IsReadable}
+use Rattle.const_oid.specs.Typed.{dotted, spelt_at, spelt_out, spelt_up_to, typed_answer, IsReadable}
 use Rattle.const_oid.proofs.{BareTexts.{bare_before_arcs, some_bytes}, Dotted.{dotted_cut, IsCut, text_of-append}, Encodings.oid_encoding, Texts.AreArcs}
 
 -- a name leads to two arcs or more
@@ -18,11 +16,11 @@ some_arcs : (arcs : List ℕ) → IsIdentifier root_rule arcs → 0 < length arc
 some_arcs [] identifier = absurd identifier
 some_arcs (arc ∷ arcs) identifier = omega arith
 
-lent_some : (found : Option (Bor (ObjectIdentifier 39))) (arcs : List ℕ) → option_map lent_arcs found ≡ Some arcs → 0 < length arcs
-lent_some None arcs is = cc
-lent_some (Some oid) arcs is =
-    let same : lent_arcs oid ≡ arcs = cc in
-    rw same at (some_arcs (lent_arcs oid) (oid_encoding oid.now).identifier)
+led_some : (found : Option Row) (arcs : List ℕ) → option_map (λ row. oid_arcs row.0) found ≡ Some arcs → 0 < length arcs
+led_some None arcs is = cc
+led_some (Some row) arcs is =
+    let same : oid_arcs row.0 ≡ arcs = cc in
+    rw same at (some_arcs (oid_arcs row.0) (oid_encoding row.0).identifier)
 
 ends_or_dot : (name later : List ℕ)
     → (length name == length (name ++ dotted later) || get_or (name ++ dotted later) (length name) 0 == dot) ≡ true
@@ -36,7 +34,7 @@ same_or None second spelt alike is = is
 same_or (Some other) second spelt (inl none) is = cc
 same_or (Some other) second spelt (inr same) is = same
 
-longest : (entries : Entries) (text spelt : List ℕ) (n : ℕ) → spelt_at entries text n ≡ Some spelt → spelt_up_to entries text n ≡ Some spelt
+longest : (entries : Rows) (text spelt : List ℕ) (n : ℕ) → spelt_at entries text n ≡ Some spelt → spelt_up_to entries text n ≡ Some spelt
 longest entries text spelt zero is = is
 longest entries text spelt (suc n) is = rw is refl
 
@@ -46,7 +44,7 @@ spelt_or_not None rest spelt alike = inl refl
 spelt_or_not (Some other) rest spelt alike = inr (ap Some (alike other refl))
 
 -- a name that leads to arcs, and if it is a name with some of the later arcs, too, then to these
-module _ (entries : Entries) (name arcs later : List ℕ) (readable : IsReadable name) (leads : led entries name ≡ Some arcs) (small : AreArcs later)
+module _ (entries : Rows) (name arcs later : List ℕ) (readable : IsReadable name) (leads : led entries name ≡ Some arcs) (small : AreArcs later)
     (alike : (arc : ℕ) (begun more other : List ℕ) → later ≡ arc ∷ begun ++ more
     → led entries (name ++ dotted (arc ∷ begun)) ≡ Some other → other ≡ arcs ++ arc ∷ begun) where
   abbrev text : List ℕ
@@ -56,7 +54,7 @@ module _ (entries : Entries) (name arcs later : List ℕ) (readable : IsReadable
   spelt = text_of (arcs ++ later)
 
   some : 0 < length arcs
-  some = lent_some (first_oid entries name) arcs leads
+  some = led_some (find (λ row. str_eq_ignore_ascii_case row.1 name) entries) arcs leads
 
   spelt_here : spelt_at entries text (length name) ≡ Some spelt
   spelt_here =
@@ -121,7 +119,7 @@ module _ (entries : Entries) (name arcs later : List ℕ) (readable : IsReadable
   name_answer capacity = rw (bare_before_arcs name later readable small, name_spelt) refl
 
 -- a name and the first of some arcs, which are no name
-pub no_name_with : (entries : Entries) (name later : List ℕ)
+pub no_name_with : (entries : Rows) (name later : List ℕ)
     → ((n : ℕ) → n < length later → led entries (name ++ dotted (take (n + 1) later)) ≡ None)
     → (arc : ℕ) (begun more other : List ℕ) → later ≡ arc ∷ begun ++ more → led entries (name ++ dotted (arc ∷ begun)) ≡ Some other → ⊥
 no_name_with entries name later none arc begun more other joined is =

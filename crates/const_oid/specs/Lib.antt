@@ -14,7 +14,9 @@ pub mod Element
 pub mod OidRef
 pub mod Buffer
 pub mod Oid
+pub mod Packed
 pub mod Names
+pub mod Rows
 pub mod SortedList
 pub mod Private
 pub mod Typed

@@ -1,7 +1,8 @@
 //! Names of identifiers, by a table that the caller holds.
 
-ghost use Rattle.std.specs.Prelude.{◌≡◌, ◌↔◌, ◌^◌, ◌<◌, ◌≤◌, IsTrue, length, nat_eq};
+ghost use Rattle.std.specs.Prelude.{◌≡◌, ◌↔◌, ◌^◌, ◌<◌, ◌≤◌, IfSome, IsTrue, length, nat_eq};
 ghost use Rattle.std.specs.Cmp.Lexicographic.{pointwise};
+ghost use Rattle.std.specs.Option.{option_map};
 ghost use Rattle.std.specs.Iterator.{YieldsFirst, item_count};
 ghost use Rattle.std.proofs.Props.{props};
 ghost use Rattle.const_oid.specs.declared.links.Key.{Key};
@@ -47,7 +48,7 @@ pub struct Database<'a> {
 }
 
 impl<'a> Database<'a> {
-    ghost use Rattle.const_oid.specs.Names.{lent_arcs, entries_of, first_name, resolve_answer, all_names, first_oid, names_left, IsIndexed};
+    ghost use Rattle.const_oid.specs.Names.{lent_arcs, entries_of, first_name, name_of, resolve_answer, all_names, first_oid, names_left, IsIndexed};
 
     /// A database over these entries. [`Database`] has an example.
     pub const fn new(entries: &'a [Entry<'a>]) -> Self
@@ -133,12 +134,24 @@ impl<'a> Database<'a> {
     pub fn by_oid(&self, oid: &Oid) -> Option<&'a str>
         ensures { result ≡ first_name lent_arcs (entries_of self.now) (oid_arcs oid.now) }
     {
+        match self.entry_of(oid) {
+            Some(entry) => Some(entry.1),
+            None => None,
+        }
+    }
+
+    /// The first entry with this identifier, or `None`.
+    // erase: const
+    pub(crate) fn entry_of(&self, oid: &Oid) -> Option<Entry<'a>>
+        ensures name { option_map name_of result ≡ first_name lent_arcs (entries_of self.now) (oid_arcs oid.now) }
+        ensures oid { IfSome result (λ entry. lent_arcs entry.0 ≡ oid_arcs oid.now) }
+    {
         let count = self.entries.len();
         let mut index = first_candidate::<0>(self.oid_links, count, oid.as_bytes());
         while index < count {
             let entry = &self.entries[index];
             if has_oid(entry, oid) {
-                return Some(entry.1);
+                return Some(*entry);
             }
             index = next_candidate(self.oid_links, count, index);
         }

@@ -20,7 +20,8 @@ ghost use Rattle.const_oid.specs.Identifier.{RootRule, Narrow, Wide, root_rule, 
 ghost use Rattle.const_oid.specs.Orders.{shortlex_cmp, parts_cmp};
 ghost use Rattle.const_oid.specs.Text.{text_fault, text_answer, text_of, components_of, number_of, Denotes, strip};
 ghost use Rattle.const_oid.specs.Tree.{BeginsWith, child_of, parent_of};
-ghost use Rattle.const_oid.specs.Typed.{AreReadable, Entries, IsReadable, bare, begins_with_digit, displayed, dotted, led, typed_answer, without_blanks};
+ghost use Rattle.const_oid.specs.Rows.{Rows, led};
+ghost use Rattle.const_oid.specs.Typed.{AreReadable, IsReadable, bare, begins_with_digit, displayed, dotted, typed_answer, without_blanks};
 ghost use Rattle.const_oid.specs.WideRule.{IsPastNarrow, RefusesSecond};
 
 /// Examples, which the definitions compute: under the rule of this crate, except for those that name the narrow one.
@@ -338,22 +339,22 @@ pub fn no_overflow()
 /// Text that begins with a digit is parsed as dotted text, whatever the names are, and without blanks around it as it
 /// is.
 pub fn no_name_begins_with_a_digit()
-    ensures bare { (entries : Entries) (text : List ℕ) (capacity : ℕ) → IsTrue (begins_with_digit (bare text))
-        → typed_answer entries text capacity ≡ text_answer root_rule (bare text) capacity }
-    ensures whole { (entries : Entries) (text : List ℕ) (capacity : ℕ) → without_blanks text ≡ text
-        → IsTrue (begins_with_digit text) → typed_answer entries text capacity ≡ text_answer root_rule text capacity }
+    ensures bare { (rows : Rows) (text : List ℕ) (capacity : ℕ) → IsTrue (begins_with_digit (bare text))
+        → typed_answer rows text capacity ≡ text_answer root_rule (bare text) capacity }
+    ensures whole { (rows : Rows) (text : List ℕ) (capacity : ℕ) → without_blanks text ≡ text
+        → IsTrue (begins_with_digit text) → typed_answer rows text capacity ≡ text_answer root_rule text capacity }
 {}
 
 /// A name and arcs are parsed as the name's arcs and these, unless the name and the first of these are a name, too.
 pub fn names_before_arcs()
-    ensures { (entries : Entries) (name arcs later : List ℕ) (capacity : ℕ) → IsReadable name
-        → led entries name ≡ Some arcs → AllByRecursion (λ arc. arc ≤ max_arc) later
-        → ((n : ℕ) → n < length later → led entries (name ++ dotted (take (n + 1) later)) ≡ None)
-        → typed_answer entries (name ++ dotted later) capacity ≡ text_answer root_rule (text_of (arcs ++ later)) capacity }
+    ensures { (rows : Rows) (name arcs later : List ℕ) (capacity : ℕ) → IsReadable name
+        → led rows name ≡ Some arcs → AllByRecursion (λ arc. arc ≤ max_arc) later
+        → ((n : ℕ) → n < length later → led rows (name ++ dotted (take (n + 1) later)) ≡ None)
+        → typed_answer rows (name ++ dotted later) capacity ≡ text_answer root_rule (text_of (arcs ++ later)) capacity }
 {}
 
 /// What is displayed is parsed as the same identifier, if the names are readable.
 pub fn displayed_is_parsed()
-    ensures { (entries : Entries) (arcs : List ℕ) (capacity : ℕ) → AreReadable entries → IsIdentifier root_rule arcs
-        → size arcs ≤ capacity → typed_answer entries (displayed entries arcs) capacity ≡ Ok arcs }
+    ensures { (rows : Rows) (arcs : List ℕ) (capacity : ℕ) → AreReadable rows → IsIdentifier root_rule arcs
+        → size arcs ≤ capacity → typed_answer rows (displayed rows arcs) capacity ≡ Ok arcs }
 {}

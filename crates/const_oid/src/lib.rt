@@ -27,6 +27,7 @@ pub mod oid;
 pub mod oid_ref;
 // Its functions are for the other crates, and so are those of `search`: Rust hides them.
 pub mod outputs;
+pub mod packed;
 mod parser;
 mod parts;
 mod readable;

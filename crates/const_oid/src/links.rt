@@ -142,6 +142,15 @@ pub(crate) fn links_in<'a>(
     }
 }
 
+/// The index of the first entry of the slot of these bytes, or the number of entries if there is none.
+// erase: const
+pub(crate) fn first_linked<const BITS: u8>(links: &[u16], count: usize, bytes: &[u8]) -> usize
+    requires { count < length links.now }
+    ensures { result ≡ slice_index links.now (count + slot_of (length links.now - count) (with_bits BITS bytes.now)) }
+{
+    links[count + slot_of::<BITS>(bytes, links.len() - count)] as usize
+}
+
 /// The index of the first entry whose key may be these bytes, or the number of entries: the first of their slot, or
 /// without links the first of all.
 // erase: const
@@ -150,7 +159,7 @@ pub(crate) fn first_candidate<const BITS: u8>(links: &[u16], count: usize, bytes
     ensures scanned { length links.now ≤ count → result ≡ 0 }
 {
     if count < links.len() {
-        links[count + slot_of::<BITS>(bytes, links.len() - count)] as usize
+        first_linked::<BITS>(links, count, bytes)
     } else {
         0
     }

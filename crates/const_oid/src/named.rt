@@ -4,8 +4,9 @@ ghost use Rattle.std.specs.Prelude.{◌≡◌, ◌<◌, ◌≤◌, ◌++◌, dro
 ghost use Rattle.std.specs.Option.{option_map};
 ghost use Rattle.const_oid.specs.Names.{lent_arcs};
 ghost use Rattle.const_oid.specs.Oid.{oid_answer};
+ghost use Rattle.const_oid.specs.Rows.{rows_in};
 ghost use Rattle.const_oid.specs.Text.{dot, text_of};
-ghost use Rattle.const_oid.specs.Typed.{entries_in, spelt_at, spelt_up_to, typed_answer};
+ghost use Rattle.const_oid.specs.Typed.{spelt_at, spelt_up_to, typed_answer};
 
 use crate::compare::lesser;
 use crate::error::Result;
@@ -33,7 +34,7 @@ impl Tables<'_> {
     /// [`Error::DigitExpected`](crate::Error::DigitExpected), as in dotted text.
     // erase: const
     pub fn parse<const MAX_SIZE: usize>(&self, text: &str) -> Result<ObjectIdentifier<MAX_SIZE>>
-        ensures { oid_answer result ≡ typed_answer (entries_in self.now) text.now (min MAX_SIZE 255) }
+        ensures { oid_answer result ≡ typed_answer (rows_in self.now) text.now (min MAX_SIZE 255) }
     {
         let text = bare(text.as_bytes());
         if begins_with_digit(text) {
@@ -52,8 +53,8 @@ pub(crate) const MAX_NAME_BYTES: usize = 255;
 /// The identifier of the longest name that a text begins with, and where the name ends.
 // erase: const
 pub(crate) fn longest_name<'a>(tables: &Tables<'a>, text: &[u8]) -> Option<(&'a Oid, usize)>
-    ensures spelt { let entries = entries_in tables.now in MatchOption result (spelt_up_to entries text.now (length text.now) ≡ None)
-        (λ found. spelt_up_to entries text.now (length text.now) ≡ Some (text_of (lent_arcs found.0) ++ drop found.1 text.now)) }
+    ensures spelt { let rows = rows_in tables.now in MatchOption result (spelt_up_to rows text.now (length text.now) ≡ None)
+        (λ found. spelt_up_to rows text.now (length text.now) ≡ Some (text_of (lent_arcs found.0) ++ drop found.1 text.now)) }
     ensures end { IfSome result (λ found. (found.1 ≤ length text.now) × (found.1 < length text.now → get_or text.now found.1 0 ≡ dot)) }
 {
     let mut end = lesser(text.len(), MAX_NAME_BYTES);
@@ -72,7 +73,7 @@ pub(crate) fn longest_name<'a>(tables: &Tables<'a>, text: &[u8]) -> Option<(&'a 
 // erase: const
 fn name_at<'a>(tables: &Tables<'a>, text: &[u8], end: usize) -> Option<&'a Oid>
     requires { end ≤ min (length text.now) MAX_NAME_BYTES }
-    ensures spelt { spelt_at (entries_in tables.now) text.now end ≡ option_map (λ oid. text_of (lent_arcs oid) ++ drop end text.now) result }
+    ensures spelt { spelt_at (rows_in tables.now) text.now end ≡ option_map (λ oid. text_of (lent_arcs oid) ++ drop end text.now) result }
     ensures end { IfSome result (λ _. end < length text.now → get_or text.now end 0 ≡ dot) }
 {
     if end < text.len() && text[end] != b'.' {

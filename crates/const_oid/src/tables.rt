@@ -2,10 +2,10 @@
 
 ghost use Rattle.std.specs.Prelude.{◌≡◌, ◌++◌, drop, length, map, min, All, IfNone, IfSome, None, MatchOption, Some};
 ghost use Rattle.std.specs.Fmt.{WritesStyledOnOk};
-ghost use Rattle.std.specs.Option.{option_map};
+ghost use Rattle.std.specs.Option.{option_copied, option_map};
 ghost use Rattle.const_oid.specs.Base128.{value_of};
 ghost use Rattle.const_oid.specs.Contents.{cut, later_fault};
-ghost use Rattle.const_oid.specs.Names.{IsNearest, entry_arcs, sorted_entries_in};
+ghost use Rattle.const_oid.specs.Names.{IsNearest, entry_arcs, lent_arcs, sorted_entries_in};
 ghost use Rattle.const_oid.specs.Oid.{oid_arcs};
 ghost use Rattle.const_oid.specs.OidRef.{ref_arcs, ref_octets};
 ghost use Rattle.const_oid.specs.Output.{Writes};
@@ -17,22 +17,58 @@ use crate::arcs::Arcs;
 use crate::db::{Database, SortedDatabase};
 use crate::db_sorted::Entry;
 use crate::digits::{MAX_ARC_LEN, utf8, write_arc, write_bytes};
+use crate::links::Entry as Lent;
 use crate::oid::Oid;
 use crate::oid_ref::ObjectIdentifierRef;
+use crate::packed::PackedDatabase;
 use crate::parts::octets_from;
 use crate::text::{text_len, write_dotted};
 use std::fmt;
+
+/// A table of names, with pointers or without. [`Tables`] has an example.
+#[derive(Copy, Clone)]
+pub enum Table<'a> {
+    Listed(Database<'a>),
+    Packed(PackedDatabase<'a>),
+}
+
+impl<'a> Table<'a> {
+    ghost use Rattle.const_oid.specs.Rows.{led, named, rows_of};
+
+    /// The identifier in the first row with a name of these bytes, ignoring ASCII case, or `None`.
+    // erase: const
+    fn by_name_bytes(&self, name: &[u8]) -> Option<&'a Oid>
+        ensures { option_map lent_arcs result ≡ led (rows_of self.now) name.now }
+    {
+        match self {
+            Table::Listed(table) => table.by_name_bytes(name),
+            Table::Packed(table) => table.by_name_bytes(name),
+        }
+    }
+
+    /// The first row with an identifier, or `None`.
+    // erase: const
+    fn entry_of(&self, oid: &Oid) -> Option<Lent<'a>>
+        ensures name { option_map (λ entry. entry.1.now) result ≡ named (rows_of self.now) (oid_arcs oid.now) }
+        ensures oid { IfSome result (λ entry. oid_arcs entry.0.now ≡ oid_arcs oid.now) }
+    {
+        match self {
+            Table::Listed(table) => table.entry_of(oid),
+            Table::Packed(table) => table.entry_of(oid),
+        }
+    }
+}
 
 /// Tables of names, which are asked in their order.
 ///
 /// # Examples
 ///
 /// ```
-/// use const_oid::{ObjectIdentifier, db::{COMMON, DB, Database, Tables}};
+/// use const_oid::{ObjectIdentifier, db::{Database, PACKED_COMMON, PACKED_DB, Table, Tables}};
 ///
 /// const LAMP: ObjectIdentifier = ObjectIdentifier::new_unwrap("1.3.6.1.4.1.32473.1");
 /// const OURS: Database<'static> = Database::new(&[(&LAMP, "lamp")]);
-/// const NAMES: Tables<'static> = Tables(&[OURS, DB, COMMON]);
+/// const NAMES: Tables<'static> = Tables(&[Table::Listed(OURS), Table::Packed(PACKED_DB), Table::Packed(PACKED_COMMON)]);
 ///
 /// let oid = LAMP.push_arc(3)?;
 /// let shown = NAMES.display(&oid);
@@ -43,18 +79,18 @@ use std::fmt;
 /// # Ok::<(), const_oid::Error>(())
 /// ```
 #[derive(Copy, Clone)]
-pub struct Tables<'a>(pub &'a [Database<'a>]);
+pub struct Tables<'a>(pub &'a [Table<'a>]);
 
 impl<'a> Tables<'a> {
-    ghost use Rattle.const_oid.specs.Names.{first_name, first_oid, lent_arcs};
-    ghost use Rattle.const_oid.specs.Typed.{displayed, displayed_by, dotted, entries_in, shown};
+    ghost use Rattle.const_oid.specs.Rows.{led, named, rows_in, IsNearestRow};
+    ghost use Rattle.const_oid.specs.Typed.{displayed, displayed_by, dotted, shown};
 
     /// The identifier that a name has in the first table that has it, ignoring ASCII case, or `None`. [`Tables`] has an
     /// example.
     // erase: const
     #[inline]
     pub fn by_name(&self, name: &str) -> Option<&'a Oid>
-        ensures { result ≡ first_oid (entries_in self.now) name.now }
+        ensures { option_map lent_arcs result ≡ led (rows_in self.now) name.now }
     {
         self.by_name_bytes(name.as_bytes())
     }
@@ -62,7 +98,7 @@ impl<'a> Tables<'a> {
     /// The identifier that a name of these bytes has in the first table that has it, ignoring ASCII case, or `None`.
     // erase: const
     pub(crate) fn by_name_bytes(&self, name: &[u8]) -> Option<&'a Oid>
-        ensures { result ≡ first_oid (entries_in self.now) name.now }
+        ensures { option_map lent_arcs result ≡ led (rows_in self.now) name.now }
     {
         let mut left = self.0;
         while let [table, rest @ ..] = left {
@@ -77,21 +113,57 @@ impl<'a> Tables<'a> {
     /// The first name of an identifier in the first table that has one, or `None`. [`Tables`] has an example.
     // erase: const
     pub fn by_oid(&self, oid: &Oid) -> Option<&'a str>
-        ensures { result ≡ first_name lent_arcs (entries_in self.now) (oid_arcs oid.now) }
+        ensures { option_copied result ≡ named (rows_in self.now) (oid_arcs oid.now) }
+    {
+        match self.entry_of(oid) {
+            Some(entry) => Some(entry.1),
+            None => None,
+        }
+    }
+
+    /// The first row with an identifier in the first table that has one, or `None`.
+    // erase: const
+    fn entry_of(&self, oid: &Oid) -> Option<Lent<'a>>
+        ensures name { option_map (λ entry. entry.1.now) result ≡ named (rows_in self.now) (oid_arcs oid.now) }
+        ensures oid { IfSome result (λ entry. oid_arcs entry.0.now ≡ oid_arcs oid.now) }
     {
         let mut left = self.0;
         while let [table, rest @ ..] = left {
-            if let Some(name) = table.by_oid(oid) {
-                return Some(name);
+            if let Some(entry) = table.entry_of(oid) {
+                return Some(entry);
             }
             left = rest;
         }
         None
     }
 
+    /// The identifier and the name of the first row with the longest prefix of an identifier, which may be the
+    /// identifier itself, or `None` if no table has a prefix. [`Tables`] has an example.
+    pub fn nearest(&self, oid: ObjectIdentifierRef<'_>) -> Option<Entry<'a>>
+        ensures found { IfSome result (λ entry. IsNearestRow (rows_in self.now) (ref_arcs oid.entry) (ref_arcs entry.0) entry.1.now) }
+        ensures none { IfNone result (All (λ row. BeginsWith (ref_arcs oid.entry) (oid_arcs row.0) → ⊥) (rows_in self.now)) }
+    {
+        let mut above = oid;
+        loop {
+            if let Some(entry) = self.lent_entry_of(above) {
+                return Some(entry);
+            }
+            above = above.parent()?;
+        }
+    }
+
+    /// The first row with a borrowed identifier, or `None`.
+    fn lent_entry_of(&self, oid: ObjectIdentifierRef<'_>) -> Option<Entry<'a>>
+        ensures name { option_map (λ entry. entry.1.now) result ≡ named (rows_in self.now) (ref_arcs oid.entry) }
+        ensures oid { IfSome result (λ entry. ref_arcs entry.0 ≡ ref_arcs oid.entry) }
+    {
+        let (oid, name) = self.entry_of(&Oid::try_from_ref(oid).ok()?)?;
+        Some((oid.as_oid_ref(), name))
+    }
+
     /// The name that is shown for an identifier of any length: its first one, if it leads back, or `None`.
     pub(crate) fn shown(&self, oid: ObjectIdentifierRef<'_>) -> Option<&'a str>
-        ensures { option_map (λ name. name.now) result ≡ shown (entries_in self.now) (ref_arcs oid.entry) }
+        ensures { option_copied result ≡ shown (rows_in self.now) (ref_arcs oid.entry) }
     {
         let oid = Oid::try_from_ref(oid).ok()?;
         let name = self.by_oid(&oid)?;
@@ -106,7 +178,7 @@ impl<'a> Tables<'a> {
     /// The text of an identifier: the name that is shown for its longest prefix with one, and a dot and a decimal for
     /// each arc after it, or else dotted text. [`Tables`] has an example.
     pub fn display(&self, oid: ObjectIdentifierRef<'a>) -> Display<'a>
-        ensures { displayed_by result ≡ displayed (entries_in self.now) (ref_arcs oid.entry) }
+        ensures { displayed_by result ≡ displayed (rows_in self.now) (ref_arcs oid.entry) }
     {
         match self.shown_above(oid) {
             Some((name, prefix)) => Display {
@@ -128,9 +200,9 @@ impl<'a> Tables<'a> {
         oid: ObjectIdentifierRef<'a>,
     ) -> Option<(&'a str, ObjectIdentifierRef<'a>)>
         ensures { MatchOption result
-            (displayed (entries_in self.now) (ref_arcs oid.entry) ≡ text_of (ref_arcs oid.entry))
+            (displayed (rows_in self.now) (ref_arcs oid.entry) ≡ text_of (ref_arcs oid.entry))
             (λ found. BeginsWith (ref_octets oid.entry) (ref_octets found.1)
-            × (displayed (entries_in self.now) (ref_arcs oid.entry) ≡ found.0.now ++ dotted (drop (length (ref_arcs found.1)) (ref_arcs oid.entry)))) }
+            × (displayed (rows_in self.now) (ref_arcs oid.entry) ≡ found.0.now ++ dotted (drop (length (ref_arcs found.1)) (ref_arcs oid.entry)))) }
     {
         let mut prefix = oid;
         loop {

@@ -3,7 +3,7 @@
 use crate::vectors::parse;
 use const_oid::Oid;
 use const_oid::db::Database;
-use const_oid::tables::Tables;
+use const_oid::tables::{Table, Tables};
 use std::alloc::{AllocError, Global};
 use std::test::Fail;
 
@@ -42,7 +42,10 @@ fn tells_each_row(rt: HostRuntime) -> Result<(), Fail> {
     for (first, second, wanted) in ROWS {
         let first = named(rt.alloc(), &oid, first)?;
         let second = named(rt.alloc(), &oid, second)?;
-        let tables = [Database::new(&first), Database::new(&second)];
+        let tables = [
+            Table::Listed(Database::new(&first)),
+            Table::Listed(Database::new(&second)),
+        ];
         assert!(rt;
             Tables(&tables).is_readable() == *wanted,
             "{first:?} {second:?}"

@@ -3,7 +3,7 @@
 use crate::identifiers::digits;
 use anyhow::{Context, Result, bail, ensure};
 use const_oid::db::{Database, SortedDatabase};
-use const_oid::tables::{Tables, nearest_in};
+use const_oid::tables::{Table, Tables, nearest_in};
 use const_oid::{ObjectIdentifierRef, Oid};
 use std::alloc::Global;
 use std::str;
@@ -45,13 +45,13 @@ pub fn indexed<'a>(
     first: &'a [(&'a Oid, &'a str)],
     second: &'a [(&'a Oid, &'a str)],
     memory: &'a mut Vec<u16>,
-) -> Result<Vec<Database<'a>>> {
+) -> Result<Vec<Table<'a>>> {
     let len = first.len().saturating_mul(6);
     memory.resize(len.saturating_add(second.len().saturating_mul(6)), 0)?;
     let (first_links, second_links) = memory.split_at_mut(len);
     let mut tables = Vec::new(alloc);
-    tables.push(Database::new(first).indexed(first_links))?;
-    tables.push(Database::new(second).indexed(second_links))?;
+    tables.push(Table::Listed(Database::new(first).indexed(first_links)))?;
+    tables.push(Table::Listed(Database::new(second).indexed(second_links)))?;
     Ok(tables)
 }
 

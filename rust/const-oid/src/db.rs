@@ -7,9 +7,11 @@
 //! [`Tables`] and [`nearest_in`] ask tables of yours, alone or beside these.
 
 pub use crate::erased::db::{Database, Names, SortedDatabase};
-pub use crate::erased::tables::{Display, Tables, nearest_in};
+pub use crate::erased::packed::PackedDatabase;
+pub use crate::erased::tables::{Display, Table, Tables, nearest_in};
 
 use crate::arcs::List;
+use crate::erased::packed::PackedRow;
 use crate::{Buffer, ObjectIdentifier, ObjectIdentifierRef, Result};
 use core::fmt;
 use core::iter::FusedIterator;
@@ -58,6 +60,14 @@ macro_rules! entries {
 }
 
 entries!(Database, ObjectIdentifier, DB);
+
+/// Lists the rows.
+impl fmt::Debug for PackedDatabase<'_> {
+    fn fmt(&self, f: &mut fmt::Formatter<'_>) -> fmt::Result {
+        f.debug_list().entries(self.rows.iter().map(|row| (self.oid_at(row), self.text_at(row)))).finish()
+    }
+}
+
 entries!(SortedDatabase, ObjectIdentifierRef, SORTED);
 
 include!("db/names.rs");
@@ -86,6 +96,17 @@ pub const COMMON: Database<'static> = Database::new(&COMMON_ENTRIES).linked(&COM
 /// The entries of [`COMMON`] in the order of arcs. [`SortedDatabase`] has an example.
 pub const COMMON_SORTED: SortedDatabase<'static> = SortedDatabase::new_unchecked(&COMMON_IN_ORDER);
 
+/// The rows of [`DB`] without pointers.
+pub const PACKED_DB: PackedDatabase<'static> = PackedDatabase::new(&OIDS, &TEXT, &ROWS, &OID_LINKS, &NAME_LINKS);
+
+/// The rows of [`COMMON`] without pointers.
+pub const PACKED_COMMON: PackedDatabase<'static> =
+    PackedDatabase::new(&COMMON_OIDS, &COMMON_TEXT, &COMMON_ROWS, &COMMON_OID_LINKS, &COMMON_NAME_LINKS);
+
+const fn row(start: u32, len: u16, oid: u16) -> PackedRow {
+    PackedRow { start, len, oid }
+}
+
 const COMMON_LEN: usize = COMMON_NAMES.len();
 
 /// An array with an item for each index. In a constant, rustc moves all pointers after an item that is written, so parts
@@ -108,12 +129,13 @@ macro_rules! items {
     }};
 }
 
-static COMMON_OIDS: [ObjectIdentifier; COMMON_LEN] = items!(COMMON_LEN, rfc4519::CN, index => {
+static COMMON_OIDS: [ObjectIdentifier; COMMON_OCTETS.len() / 40] = items!(COMMON_OCTETS.len() / 40, rfc4519::CN, index => {
     padded(*COMMON_OCTETS.split_at(40 * index).1.first_chunk().unwrap())
 });
 
-static COMMON_ENTRIES: [(&ObjectIdentifier, &str); COMMON_LEN] =
-    items!(COMMON_LEN, (&COMMON_OIDS[0], ""), index => (&COMMON_OIDS[index], COMMON_NAMES[index]));
+static COMMON_ENTRIES: [(&ObjectIdentifier, &str); COMMON_LEN] = items!(COMMON_LEN, (&COMMON_OIDS[0], ""), index => {
+    (&COMMON_OIDS[COMMON_ROWS[index].oid as usize], COMMON_NAMES[index])
+});
 
 static COMMON_IN_ORDER: [(&ObjectIdentifierRef, &str); COMMON_LEN] = in_order(&COMMON_ENTRIES, &COMMON_ORDER);
 
@@ -134,7 +156,7 @@ const fn padded([used, bytes @ ..]: [u8; 40]) -> ObjectIdentifier {
 }
 
 /// The tables that the functions here ask.
-const TABLES: Tables<'static> = Tables(&[DB, COMMON]);
+const TABLES: Tables<'static> = Tables(&[Table::Packed(PACKED_DB), Table::Packed(PACKED_COMMON)]);
 
 /// The identifier with a name, ignoring ASCII case, in [`DB`], or else in [`COMMON`], or `None`.
 ///
@@ -180,11 +202,11 @@ pub const fn parse<const MAX_SIZE: usize>(text: &str) -> Result<ObjectIdentifier
     TABLES.parse(text)
 }
 
-/// The first entry of [`SORTED`] or [`COMMON_SORTED`] with the longest prefix of an identifier, of one in both that of
-/// [`SORTED`], or `None`. [`parse`] has an example.
+/// The longest prefix of an identifier in [`DB`] or [`COMMON`], which may be the identifier itself, and its name by
+/// [`by_oid`], or `None`. [`parse`] has an example.
 #[must_use]
-pub fn nearest(oid: &ObjectIdentifierRef) -> Option<&'static (&'static ObjectIdentifierRef, &'static str)> {
-    nearest_in(&[SORTED, COMMON_SORTED], oid)
+pub fn nearest(oid: &ObjectIdentifierRef) -> Option<(&'static ObjectIdentifierRef, &'static str)> {
+    TABLES.nearest(oid)
 }
 
 /// The text of an identifier: its name by [`by_oid`], or that of its longest prefix with one, and the arcs after it, or
@@ -223,7 +245,7 @@ fn links_are_made_where_they_help() {
         assert_eq!(table.name_links.as_ptr() == had.as_ptr(), made == before, "{names} {len}");
     }
     for links in [DB.oid_links, DB.name_links] {
-        assert!((500..600).contains(&(links.len() - DB.len())), "some 500 slots");
+        assert_eq!(links.len(), 2 * DB.len(), "a slot for each entry");
     }
     for count in [100, 101, 255, 256, 257, 1_000, 1_500] {
         for (alike, made) in [(0, 2 * count), (count / 5, 2 * count), (count / 4 + 3, 0)] {

@@ -154,13 +154,16 @@ fn types_have_identifiers() {
 
 #[cfg(feature = "db")]
 mod db {
-    use const_oid::db::{Database, Display, Names, SortedDatabase, rfc4519::CN};
+    use const_oid::db::{Database, Display, Names, PackedDatabase, SortedDatabase, Table, Tables, rfc4519::CN};
     use std::fmt::{self, Debug};
     use std::iter::FusedIterator;
 
     traits! {
         ['a] Database<'a>: Copy, Clone, Debug, Send, Sync;
         ['a] SortedDatabase<'a>: Copy, Clone, Debug, Send, Sync;
+        ['a] PackedDatabase<'a>: Copy, Clone, Debug, Send, Sync;
+        ['a] Table<'a>: Copy, Clone, Debug, Send, Sync;
+        ['a] Tables<'a>: Copy, Clone, Debug, Send, Sync;
         ['a] Names<'a>: Iterator<Item = &'a str>, FusedIterator, Clone, Debug;
         ['a] Display<'a>: fmt::Display, Copy, Clone, Debug, Send, Sync;
     }

@@ -47,6 +47,7 @@ pub const CRATES: &[Crate] = &[
                 "they are of a feature";
             "lib": "pub(crate) mod links;" => "#[cfg(feature = \"db\")] pub(crate) mod links;", "as above";
             "lib": "pub mod tables;" => "#[cfg(feature = \"db\")] pub mod tables;", "as above";
+            "lib": "pub mod packed;" => "#[cfg(feature = \"db\")] pub mod packed;", "as above";
             "lib": "mod readable;" => "#[cfg(feature = \"db\")] mod readable;", "as above";
             "lib": "mod named;" => "#[cfg(feature = \"db\")] mod named;", "as above";
             "lib": "mod encoder;" => "pub(crate) mod encoder;", FOR_C;
@@ -106,6 +107,9 @@ pub const CRATES: &[Crate] = &[
             "db": "oid_links: &'a [u16], name_links: &'a [u16],"
                 => "pub(crate) oid_links: &'a [u16],\npub(crate) name_links: &'a [u16],", "a unit test sees them";
             "tables*": "#[derive(Copy, Clone)] pub struct" => "#[derive(Copy, Clone, Debug)]\npub struct", "for users";
+            "tables": "#[derive(Copy, Clone)] pub enum" => "#[derive(Copy, Clone, Debug)]\npub enum", "as above";
+            "packed": "const fn oid_at" => "pub(crate) const fn oid_at", "a caller by hand lists the rows";
+            "packed": "const fn text_at" => "#[allow(unsafe_code)]\npub(crate) const fn text_at", "as above; and as `utf8`";
             "db_sorted": "pub const fn new" => "pub const fn new_unchecked", "no checker rejects a wrong order";
             "db_sorted": "entries: &'a [Entry<'a>]," => "pub(crate) entries: &'a [Entry<'a>],", "a caller by hand lists the entries";
             "digits": "pub(crate) fn utf8" => "#[allow(unsafe_code)]\npub(crate) fn utf8",

@@ -97,12 +97,20 @@ impl<'a> Database<'a> {
     /// ```
     #[must_use]
     pub const fn by_oid(&self, oid: &Oid) -> Option<&'a str> {
+        match self.entry_of(oid) {
+            Some(entry) => Some(entry.1),
+            None => None,
+        }
+    }
+
+    /// The first entry with this identifier, or `None`.
+    pub(crate) const fn entry_of(&self, oid: &Oid) -> Option<Entry<'a>> {
         let count = self.entries.len();
         let mut index = first_candidate::<0>(self.oid_links, count, oid.as_bytes());
         while index < count {
             let entry = &self.entries[index];
             if has_oid(entry, oid) {
-                return Some(entry.1);
+                return Some(*entry);
             }
             index = next_candidate(self.oid_links, count, index);
         }

@@ -102,10 +102,15 @@ pub(crate) fn links_in<'a>(entries: &[Entry<'_>], key: Key, links: &'a [u16], me
     if is_spread(memory, count) { memory } else { links }
 }
 
+/// The index of the first entry of the slot of these bytes, or the number of entries if there is none.
+pub(crate) const fn first_linked<const BITS: u8>(links: &[u16], count: usize, bytes: &[u8]) -> usize {
+    links[count + slot_of::<BITS>(bytes, links.len() - count)] as usize
+}
+
 /// The index of the first entry whose key may be these bytes, or the number of entries: the first of their slot, or
 /// without links the first of all.
 pub(crate) const fn first_candidate<const BITS: u8>(links: &[u16], count: usize, bytes: &[u8]) -> usize {
-    if count < links.len() { links[count + slot_of::<BITS>(bytes, links.len() - count)] as usize } else { 0 }
+    if count < links.len() { first_linked::<BITS>(links, count, bytes) } else { 0 }
 }
 
 /// The index of the next such entry after one, or the number of entries: the next of its slot, or without links of all.

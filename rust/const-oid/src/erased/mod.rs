@@ -26,6 +26,8 @@ pub mod oid;
 pub mod oid_ref;
 // Its functions are for the other crates, and so are those of `search`: Rust hides them.
 pub mod outputs;
+#[cfg(feature = "db")]
+pub mod packed;
 mod parser;
 mod parts;
 #[cfg(feature = "db")]

@@ -5,7 +5,8 @@
 use crate::erased::compare::is_same_name;
 use crate::erased::links::Entry;
 use crate::erased::named::MAX_NAME_BYTES;
-use crate::erased::tables::Tables;
+use crate::erased::packed::PackedDatabase;
+use crate::erased::tables::{Table, Tables};
 use crate::erased::typed::{bare, begins_with_digit};
 
 impl Tables<'_> {
@@ -17,16 +18,34 @@ impl Tables<'_> {
     #[must_use]
     pub fn is_readable(&self) -> bool {
         for table in self.0 {
-            if !self.are_plain(table.entries) {
+            if !self.are_plain(table) {
                 return false;
             }
         }
         true
     }
 
+    /// Whether the names of a table are plain.
+    fn are_plain(&self, table: &Table<'_>) -> bool {
+        match table {
+            Table::Listed(table) => self.are_listed_plain(table.entries),
+            Table::Packed(table) => self.are_packed_plain(table),
+        }
+    }
+
     /// Whether the names of entries are plain.
-    fn are_plain(&self, entries: &[Entry<'_>]) -> bool {
+    fn are_listed_plain(&self, entries: &[Entry<'_>]) -> bool {
         entries.iter().all(|entry| self.is_plain(entry.1.as_bytes()))
+    }
+
+    /// Whether the names of a table without pointers are plain.
+    fn are_packed_plain(&self, table: &PackedDatabase<'_>) -> bool {
+        for row in table.rows {
+            if !self.is_plain(table.name_at(row)) {
+                return false;
+            }
+        }
+        true
     }
 
     /// Whether a name is readable, and does not begin with a name and arcs.

@@ -6,22 +6,49 @@ use crate::erased::arcs::Arcs;
 use crate::erased::db::{Database, SortedDatabase};
 use crate::erased::db_sorted::Entry;
 use crate::erased::digits::{MAX_ARC_LEN, utf8, write_arc, write_bytes};
+use crate::erased::links::Entry as Lent;
 use crate::erased::oid::Oid;
 use crate::erased::oid_ref::ObjectIdentifierRef;
+use crate::erased::packed::PackedDatabase;
 use crate::erased::parts::octets_from;
 use crate::erased::text::{text_len, write_dotted};
 use core::fmt;
+
+/// A table of names, with pointers or without. [`Tables`] has an example.
+#[derive(Copy, Clone, Debug)]
+pub enum Table<'a> {
+    Listed(Database<'a>),
+    Packed(PackedDatabase<'a>),
+}
+
+impl<'a> Table<'a> {
+    /// The identifier in the first row with a name of these bytes, ignoring ASCII case, or `None`.
+    const fn by_name_bytes(&self, name: &[u8]) -> Option<&'a Oid> {
+        match self {
+            Table::Listed(table) => table.by_name_bytes(name),
+            Table::Packed(table) => table.by_name_bytes(name),
+        }
+    }
+
+    /// The first row with an identifier, or `None`.
+    const fn entry_of(&self, oid: &Oid) -> Option<Lent<'a>> {
+        match self {
+            Table::Listed(table) => table.entry_of(oid),
+            Table::Packed(table) => table.entry_of(oid),
+        }
+    }
+}
 
 /// Tables of names, which are asked in their order.
 ///
 /// # Examples
 ///
 /// ```
-/// use const_oid::{ObjectIdentifier, db::{COMMON, DB, Database, Tables}};
+/// use const_oid::{ObjectIdentifier, db::{Database, PACKED_COMMON, PACKED_DB, Table, Tables}};
 ///
 /// const LAMP: ObjectIdentifier = ObjectIdentifier::new_unwrap("1.3.6.1.4.1.32473.1");
 /// const OURS: Database<'static> = Database::new(&[(&LAMP, "lamp")]);
-/// const NAMES: Tables<'static> = Tables(&[OURS, DB, COMMON]);
+/// const NAMES: Tables<'static> = Tables(&[Table::Listed(OURS), Table::Packed(PACKED_DB), Table::Packed(PACKED_COMMON)]);
 ///
 /// let oid = LAMP.push_arc(3)?;
 /// let shown = NAMES.display(&oid);
@@ -32,7 +59,7 @@ use core::fmt;
 /// # Ok::<(), const_oid::Error>(())
 /// ```
 #[derive(Copy, Clone, Debug)]
-pub struct Tables<'a>(pub &'a [Database<'a>]);
+pub struct Tables<'a>(pub &'a [Table<'a>]);
 
 impl<'a> Tables<'a> {
     /// The identifier that a name has in the first table that has it, ignoring ASCII case, or `None`. [`Tables`] has an
@@ -58,14 +85,41 @@ impl<'a> Tables<'a> {
     /// The first name of an identifier in the first table that has one, or `None`. [`Tables`] has an example.
     #[must_use]
     pub const fn by_oid(&self, oid: &Oid) -> Option<&'a str> {
+        match self.entry_of(oid) {
+            Some(entry) => Some(entry.1),
+            None => None,
+        }
+    }
+
+    /// The first row with an identifier in the first table that has one, or `None`.
+    const fn entry_of(&self, oid: &Oid) -> Option<Lent<'a>> {
         let mut left = self.0;
         while let [table, rest @ ..] = left {
-            if let Some(name) = table.by_oid(oid) {
-                return Some(name);
+            if let Some(entry) = table.entry_of(oid) {
+                return Some(entry);
             }
             left = rest;
         }
         None
+    }
+
+    /// The identifier and the name of the first row with the longest prefix of an identifier, which may be the
+    /// identifier itself, or `None` if no table has a prefix. [`Tables`] has an example.
+    #[must_use]
+    pub fn nearest(&self, oid: &ObjectIdentifierRef) -> Option<Entry<'a>> {
+        let mut above = oid;
+        loop {
+            if let Some(entry) = self.lent_entry_of(above) {
+                return Some(entry);
+            }
+            above = above.parent()?;
+        }
+    }
+
+    /// The first row with a borrowed identifier, or `None`.
+    fn lent_entry_of(&self, oid: &ObjectIdentifierRef) -> Option<Entry<'a>> {
+        let (oid, name) = self.entry_of(&Oid::try_from_ref(oid).ok()?)?;
+        Some((oid.as_oid_ref(), name))
     }
 
     /// The name that is shown for an identifier of any length: its first one, if it leads back, or `None`.

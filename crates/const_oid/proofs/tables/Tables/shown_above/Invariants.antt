@@ -1,5 +1,5 @@
 use Rattle.std.proofs.Common.{◌≡◌, length}
-use Rattle.const_oid.specs.{OidRef.{ref_arcs, ref_octets}, Tree.BeginsWith, Typed.{displayed, displayed_up_to, entries_in}}
+use Rattle.const_oid.specs.{OidRef.{ref_arcs, ref_octets}, Tree.BeginsWith, Rows.rows_in, Typed.{displayed, displayed_up_to}}
 use Rattle.const_oid.proofs.tables.Tables.shown_above.Given as goal
 
 -- no longer prefix has a name that is shown
@@ -7,7 +7,7 @@ abbrev pub invariant-loop-name : goal.invariant-loop-name
 invariant-loop-name l = record {
   begins : BeginsWith (ref_octets l.oid) (ref_octets l.prefix);
   arcs : BeginsWith (ref_arcs l.oid) (ref_arcs l.prefix);
-  shorter : displayed (entries_in l.self) (ref_arcs l.oid) ≡ displayed_up_to (entries_in l.self) (ref_arcs l.oid) (length (ref_arcs l.prefix));
+  shorter : displayed (rows_in l.self) (ref_arcs l.oid) ≡ displayed_up_to (rows_in l.self) (ref_arcs l.oid) (length (ref_arcs l.prefix));
 }
 
 abbrev pub decreases-loop-name : goal.decreases-loop-name
