@@ -1,5 +1,5 @@
 -- The text of the arcs after those of a prefix.
-use Rattle.std.proofs.Common.{◌≡◌, ◌≢◌, ◌∙◌, ap, sym, ℕ, ◌<◌, ◌≤◌, List, length, drop, take, min, arith, refl, false, true, Ok, Err}
+use Rattle.std.proofs.Common.{◌≡◌, ℕ, List, length, drop, take, refl, false, Ok, Err}
 use Rattle.std.specs.Prelude.{nat_eq}
 use Rattle.std.specs.Cmp.Lexicographic.{pointwise}
 use Rattle.std.proofs.lemmas.Bool.{false_from_ne_true}
