@@ -675,7 +675,7 @@ fn reads_octets_at_edges() {
     all(&EDGES, 4, check_borrowed);
 }
 
-/// Drawn ones, and lengths up to 40, of which one octet in turn is another, which no `rust/drawn` tests elsewhere.
+/// Drawn ones, and lengths up to 40, of which one octet in turn is another, which no `rust/random_rows` tests elsewhere.
 #[test]
 fn reads_octets_by_windows() {
     let cases = (0..=40).flat_map(|len| (0..len).map(move |index| (len, index)));
