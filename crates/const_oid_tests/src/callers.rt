@@ -1,13 +1,13 @@
-//! Tests of `const_oid_uses`, without the modules `label` and `walk`: each function runs once.
+//! Tests of `examples`, without the modules `label` and `walk`: each function runs once.
 
 use crate::vectors::parse;
 use const_oid::db::{Database, SortedDatabase};
 use const_oid::{AssociatedOid, Error, Oid};
-use const_oid_uses::algorithms::name_of;
-use const_oid_uses::schema::{Attribute, CommonName, Country, find, has_type};
-use const_oid_uses::subtree::is_under_any;
-use const_oid_uses::table::{ATTRIBUTE_TYPES, indexed, is_attribute_type};
-use const_oid_uses::theorems;
+use examples::algorithms::name_of;
+use examples::schema::{Attribute, CommonName, Country, find, has_type};
+use examples::subtree::is_under_any;
+use examples::table::{ATTRIBUTE_TYPES, indexed, is_attribute_type};
+use examples::theorems;
 use std::test::Fail;
 
 /// rsaEncryption (RFC 8017).

@@ -1,4 +1,4 @@
-//! Tests over the public functions of `const_oid` and `const_oid_uses`: what no clause and no row of `oid_rows` says.
+//! Tests over the public functions of `const_oid` and `examples`: what no clause and no row of `oid_rows` says.
 #![tactic(auto)]
 
 #[cfg(test)]

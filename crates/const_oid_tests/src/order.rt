@@ -13,7 +13,7 @@ ghost use Rattle.const_oid.specs.Orders.{shortlex_cmp};
 
 use crate::vectors::{accepted_rows, parse, read_borrowed};
 use const_oid::{Arc, Buffer, ByArcs, ObjectIdentifier, ObjectIdentifierRef, Oid};
-use const_oid_uses::theorems::parent_of_child;
+use examples::theorems::parent_of_child;
 use std::alloc::{AllocError, Global};
 use std::cmp::Ordering;
 use std::collections::{BTreeMap, BTreeSet, HashMap};

@@ -1,4 +1,4 @@
-//! Tables sorted by arcs, as `sorted` of `const_oid_uses::label` makes them: the functions of `SortedDatabase`, searches,
+//! Tables sorted by arcs, as `sorted` of `examples::label` makes them: the functions of `SortedDatabase`, searches,
 //! and the labels of SNMP that `label` prints.
 
 ghost use Rattle.std.specs.Prelude.{◌≡◌, IsOk, IfOk};
@@ -8,7 +8,7 @@ use crate::vectors::{parse, read_borrowed};
 use const_oid::ObjectIdentifierRef;
 use const_oid::db::SortedDatabase;
 use const_oid::search::{end_of, first_of, nearest_of, start_of, subtree_of};
-use const_oid_uses::label::{label, sorted};
+use examples::label::{label, sorted};
 use std::alloc::{AllocError, Global};
 use std::test::Fail;
 

@@ -1,4 +1,4 @@
-//! Rows of SNMP in the order of a walk (RFC 3416): `next_under` and `name` of `const_oid_uses::walk`, and `ByArcs` as a
+//! Rows of SNMP in the order of a walk (RFC 3416): `next_under` and `name` of `examples::walk`, and `ByArcs` as a
 //! key.
 
 ghost use Rattle.std.specs.Cmp.Lexicographic.{slice_cmp};
@@ -8,7 +8,7 @@ ghost use Rattle.const_oid.specs.OidRef.{key_arcs};
 
 use crate::vectors::parse;
 use const_oid::{ByArcs, Error, ObjectIdentifier, ObjectIdentifierRef};
-use const_oid_uses::walk::{MAX_NAME, name, next_under};
+use examples::walk::{MAX_NAME, name, next_under};
 use std::alloc::Global;
 use std::collections::BTreeMap;
 use std::test::Fail;
