@@ -73,7 +73,7 @@ class Names(unittest.TestCase):
                 self.assertGreater(len(ours), 20)
 
     def test_what_people_type_is_parsed_and_displayed(self):
-        for row in (TOP / "rust/const-oid/tests/typed_names.tsv").read_text(encoding="utf-8").rstrip("\n").split("\n"):
+        for row in (TOP / "crates/oid_rows/typed_names.tsv").read_text(encoding="utf-8").rstrip("\n").split("\n"):
             typed, wanted, shown = row.split("\t")
             for given in (typed, f"\t\r\n\f {typed} \n"):
                 if error := error_of(names.parse, given):

@@ -78,7 +78,7 @@ static void see_name(const char *name, const_oid_octets of, size_t row) {
 
 int main(void) {
     static char line[ROOM];
-    FILE *rows = fopen("../../rust/const-oid/tests/typed_names.tsv", "r");
+    FILE *rows = fopen("../oid_rows/typed_names.tsv", "r");
     for (size_t row = 1; rows && fgets(line, ROOM, rows); row++) {
         char *second = strchr(line, '\t'), *third = strchr(second + 1, '\t');
         *second = *third = third[strcspn(third, "\n")] = 0;

@@ -70,7 +70,7 @@ fn run_each<'a>(arguments: impl Iterator<Item = &'a str>) -> (String, String, u8
 /// Each row of what people type is read, and displayed, or has its error, with escapes.
 #[test]
 fn reads_what_people_type() {
-    for line in include_str!("typed_names.tsv").lines() {
+    for line in include_str!("../../../crates/oid_rows/typed_names.tsv").lines() {
         let [input, wanted, shown] = Vec::from_iter(line.split('\t')).try_into().unwrap();
         let (out, errors, status) = run_each([input].into_iter());
         let is_read = out.starts_with(&format!("{wanted}\n  by name: {shown}\n")) && errors.is_empty();
