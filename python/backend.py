@@ -1,9 +1,12 @@
 """The build backend of this folder (PEP 517 and 660): a wheel with the extension module and the tables of names, and a
 source archive of all that the wheel is made from. README.md says what it needs."""
+
 import sys
 
 if sys.version_info < (3, 11) or sys.platform != "linux":
-    raise SystemExit(f"const-oid: needs Python 3.11 or later on Linux, not {sys.version.split()[0]} on {sys.platform}")
+    raise SystemExit(
+        f"const-oid: needs Python 3.11 or later on Linux, not {sys.version.split()[0]} on {sys.platform}"
+    )
 
 import base64
 import fcntl
@@ -29,23 +32,50 @@ CRATE = TOP / "rust/const-oid-c/Cargo.toml"
 HEADER = TOP / "crates/const_oid_c/include/const_oid.h"
 EXTENSION = "_native.abi3.so"
 SOURCES = ("__init__.py", "_native.pyi", "names.py", "py.typed", "sorted_map.py")
-PACKAGE = [*(HERE / "src/const_oid" / name for name in SOURCES), TOP / "rust/names.tsv", TOP / "rust/common_names.tsv"]
+PACKAGE = [
+    *(HERE / "src/const_oid" / name for name in SOURCES),
+    TOP / "rust/names.tsv",
+    TOP / "rust/common_names.tsv",
+]
 LICENCES = ("LICENSE-APACHE", "LICENSE-MIT")
-ARCHIVED = ("backend.py", "pyproject.toml", "README.md", "src/*.[ch]", *(f"src/const_oid/{name}" for name in SOURCES))
-ARCHIVED_OF_TOP = (*LICENCES, "crates/const_oid_c/include/*.h", "rust/const-oid/README.md", "rust/const-oid*/Cargo.*")
-ARCHIVED_OF_TOP += ("rust/*names.tsv", "rust/const-oid/examples/*.rs", "rust/const-oid*/src/**/*.rs")
+ARCHIVED = (
+    "backend.py",
+    "pyproject.toml",
+    "README.md",
+    "src/*.[ch]",
+    *(f"src/const_oid/{name}" for name in SOURCES),
+)
+ARCHIVED_OF_TOP = (
+    *LICENCES,
+    "crates/const_oid_c/include/*.h",
+    "rust/const-oid/README.md",
+    "rust/const-oid*/Cargo.*",
+)
+ARCHIVED_OF_TOP += (
+    "rust/*names.tsv",
+    "rust/const-oid/examples/*.rs",
+    "rust/const-oid*/src/**/*.rs",
+)
 COMPILER = shlex.split(os.environ.get("CC", "")) or ["cc"]
 RUSTC = os.environ.get("RUSTC") or "rustc"
 INCLUDE = pathlib.Path(sysconfig.get_path("include"))
 
 if sysconfig.get_config_var("Py_GIL_DISABLED"):
-    raise SystemExit("const-oid: a free-threaded Python does not have abi3, the stable ABI that the module is for")
+    raise SystemExit(
+        "const-oid: a free-threaded Python does not have abi3, the stable ABI that the module is for"
+    )
 if not CRATE.exists():
-    raise SystemExit(f"const-oid: there is no {CRATE}: install a checkout of the repository, or a source archive")
+    raise SystemExit(
+        f"const-oid: there is no {CRATE}: install a checkout of the repository, or a source archive"
+    )
 PROJECT = tomllib.loads((HERE / "pyproject.toml").read_text(encoding="utf-8"))["project"]
-PROJECT["version"] = ".".join(re.findall(r"define CONST_OID_VERSION_\w+ (\d+)", HEADER.read_text(encoding="utf-8")))
+PROJECT["version"] = ".".join(
+    re.findall(r"define CONST_OID_VERSION_\w+ (\d+)", HEADER.read_text(encoding="utf-8"))
+)
 # A 32-bit Python may run on a 64-bit kernel, whose name it then has.
-OF_32_BITS = {"linux-x86_64": "linux-i686", "linux-aarch64": "linux-armv7l"} if sys.maxsize < 2**32 else {}
+OF_32_BITS = (
+    {"linux-x86_64": "linux-i686", "linux-aarch64": "linux-armv7l"} if sys.maxsize < 2**32 else {}
+)
 PLATFORM = OF_32_BITS.get(sysconfig.get_platform(), sysconfig.get_platform())
 TAG = f"cp311-abi3-{re.sub('[-.]', '_', PLATFORM)}"
 STEM = f"{PROJECT['name'].replace('-', '_')}-{PROJECT['version']}"
@@ -55,7 +85,9 @@ def _output(*command):
     """What a program prints; its errors end the build."""
     run = subprocess.run(command, text=True, stdout=subprocess.PIPE)
     if run.returncode:
-        raise SystemExit(f"const-oid: {shlex.join(map(str, command))} ends with status {run.returncode}")
+        raise SystemExit(
+            f"const-oid: {shlex.join(map(str, command))} ends with status {run.returncode}"
+        )
     return run.stdout
 
 
@@ -79,8 +111,12 @@ def _missing(is_installed):
 def _library(is_installed, temporary):
     """The header's folder and the static library: installed ones, or what cargo builds for this machine."""
     if is_installed:
-        paths = (_output("pkg-config", f"--variable={name}", "const_oid_c") for name in ("includedir", "libdir"))
-        include, folder = (path.rstrip("\n").replace("\\ ", " ") for path in paths)  # a space has a backslash
+        paths = (
+            _output("pkg-config", f"--variable={name}", "const_oid_c")
+            for name in ("includedir", "libdir")
+        )
+        # A space has a backslash.
+        include, folder = (path.rstrip("\n").replace("\\ ", " ") for path in paths)
         return include, f"{folder}/libconst_oid_c.a"
     host = re.search(r"^host: (.+)$", _output(RUSTC, "-vV"), re.M)[1]
     command = ["cargo", "build", "--quiet", "--release", "--locked", "--offline", "--target", host]
@@ -92,24 +128,51 @@ def _compiled(settings):
     """The extension module."""
     is_installed = settings == {"library": "installed"}
     if settings and not is_installed:
-        raise SystemExit(f"const-oid: the one setting that there is is library=installed, and these are {settings}")
+        raise SystemExit(
+            f"const-oid: the one setting that there is is library=installed, and these are {settings}"
+        )
     if missing := list(_missing(is_installed)):
         raise SystemExit(f"const-oid: to be installed first: {'; '.join(missing)}")
     link = ["-shared", "-Wl,--exclude-libs,ALL", "-s"]
-    flags = ["-std=c11", "-O2", "-fPIC", "-fno-plt", "-fvisibility=hidden", *shlex.split(os.environ.get("CFLAGS", ""))]
+    flags = [
+        "-std=c11",
+        "-O2",
+        "-fPIC",
+        "-fno-plt",
+        "-fvisibility=hidden",
+        *shlex.split(os.environ.get("CFLAGS", "")),
+    ]
     with tempfile.TemporaryDirectory() as temporary:
         include, library = _library(is_installed, temporary)
-        files = [f"-I{INCLUDE}", f"-I{include}", *sorted(HERE.glob("src/*.c")), library, "-o", f"{temporary}/made"]
+        files = [
+            f"-I{INCLUDE}",
+            f"-I{include}",
+            *sorted(HERE.glob("src/*.c")),
+            library,
+            "-o",
+            f"{temporary}/made",
+        ]
         _output(*COMPILER, *flags, *link, *files, *shlex.split(os.environ.get("LDFLAGS", "")))
         return pathlib.Path(temporary, "made").read_bytes()
 
 
 def _metadata():
     """The file METADATA, of the project and its page."""
-    fields = {"Name": "name", "Version": "version", "Summary": "description", "License-Expression": "license"}
+    fields = {
+        "Name": "name",
+        "Version": "version",
+        "Summary": "description",
+        "License-Expression": "license",
+    }
     lines = ["Metadata-Version: 2.4", "Description-Content-Type: text/markdown"]
-    lines += [f"{field}: {PROJECT[name]}" for field, name in {**fields, "Requires-Python": "requires-python"}.items()]
-    lines += [*map("License-File: {}".format, LICENCES), *map("Classifier: {}".format, PROJECT["classifiers"])]
+    lines += [
+        f"{field}: {PROJECT[name]}"
+        for field, name in {**fields, "Requires-Python": "requires-python"}.items()
+    ]
+    lines += [
+        *map("License-File: {}".format, LICENCES),
+        *map("Classifier: {}".format, PROJECT["classifiers"]),
+    ]
     return "\n".join([*lines, "", ""]).encode() + (HERE / "README.md").read_bytes()
 
 
@@ -118,7 +181,10 @@ def _write_wheel(folder, files):
     information, wheel = f"{STEM}.dist-info", f"{STEM}-{TAG}.whl"
     head = "Wheel-Version: 1.0\nGenerator: const_oid\nRoot-Is-Purelib: false\n"
     files |= {f"{information}/licenses/{name}": (TOP / name).read_bytes() for name in LICENCES}
-    files |= {f"{information}/METADATA": _metadata(), f"{information}/WHEEL": f"{head}Tag: {TAG}\n".encode()}
+    files |= {
+        f"{information}/METADATA": _metadata(),
+        f"{information}/WHEEL": f"{head}Tag: {TAG}\n".encode(),
+    }
     record = f"{information}/RECORD,,\n"
     for name, content in files.items():
         digest = base64.urlsafe_b64encode(hashlib.sha256(content).digest()).rstrip(b"=").decode()
@@ -155,11 +221,17 @@ def build_editable(wheel_directory, config_settings=None, metadata_directory=Non
 def build_sdist(sdist_directory, config_settings=None):
     """Writes the source archive into a folder, and returns its name."""
     file, files = f"{STEM}.tar.gz", {"PKG-INFO": _metadata()}
-    for top, pattern in [(HERE, pattern) for pattern in ARCHIVED] + [(TOP, pattern) for pattern in ARCHIVED_OF_TOP]:
-        files |= {path.relative_to(top).as_posix(): path.read_bytes() for path in sorted(top.glob(pattern))}
-    with gzip.GzipFile(f"{sdist_directory}/{file}", "wb", mtime=0) as out, tarfile.open(mode="w", fileobj=out) as tar:
-        for name, content in files.items():
-            entry = tarfile.TarInfo(f"{STEM}/{name}")
-            entry.size = len(content)
-            tar.addfile(entry, io.BytesIO(content))
+    for top, pattern in [(HERE, pattern) for pattern in ARCHIVED] + [
+        (TOP, pattern) for pattern in ARCHIVED_OF_TOP
+    ]:
+        files |= {
+            path.relative_to(top).as_posix(): path.read_bytes()
+            for path in sorted(top.glob(pattern))
+        }
+    with gzip.GzipFile(f"{sdist_directory}/{file}", "wb", mtime=0) as out:
+        with tarfile.open(mode="w", fileobj=out) as tar:
+            for name, content in files.items():
+                entry = tarfile.TarInfo(f"{STEM}/{name}")
+                entry.size = len(content)
+                tar.addfile(entry, io.BytesIO(content))
     return file

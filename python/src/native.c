@@ -6,14 +6,18 @@ static const_oid_octets items_of(PyObject *bytes) {
     return (const_oid_octets){(const uint8_t *)PyBytes_AsString(bytes), (size_t)((PyVarObject *)bytes)->ob_size};
 }
 
-static const_oid_octets octets_of(PyObject *self) { return ((Identifier *)self)->items; }
+static const_oid_octets octets_of(PyObject *self) {
+    return ((Identifier *)self)->items;
+}
 
 void identifier_dealloc(PyObject *self) {
     Identifier *identifier = (Identifier *)self;
     PyTypeObject *type = Py_TYPE(self);
-    if (identifier->weak_references) PyObject_ClearWeakRefs(self);
+    if (identifier->weak_references)
+        PyObject_ClearWeakRefs(self);
     Py_DecRef(identifier->octets);
-    if (identifier->arcs) Py_DecRef(identifier->arcs);
+    if (identifier->arcs)
+        Py_DecRef(identifier->arcs);
     ((freefunc)PyType_GetSlot(type, Py_tp_free))(self);
     Py_DecRef((PyObject *)type);
 }
@@ -24,7 +28,9 @@ static int is_plain(PyTypeObject *type) {
 }
 
 /* ObjectIdentifier, of which a type is a subclass, or which it is. NULL if it is another type. */
-static PyTypeObject *base_of(PyTypeObject *type) { return base_by(type, identifier_dealloc); }
+static PyTypeObject *base_of(PyTypeObject *type) {
+    return base_by(type, identifier_dealloc);
+}
 
 /* An attribute. Python's cache of methods would keep each name that is not interned. */
 PyObject *attribute(PyObject *object, const char *name) {
@@ -36,7 +42,8 @@ PyObject *attribute(PyObject *object, const char *name) {
  * would take the caller's __import__. It steals the arguments, a tuple. */
 static PyObject *call_support(PyObject *self, const char *name, PyObject *arguments) {
     PyTypeObject *type = base_of(PyType_Check(self) ? (PyTypeObject *)self : Py_TYPE(self));
-    if (!type) type = base_by(Py_TYPE(self), table_dealloc);
+    if (!type)
+        type = base_by(Py_TYPE(self), table_dealloc);
     OWNED *stolen = arguments, *support = stolen ? attribute(PyType_GetModule(type), "support") : NULL;
     OWNED *function = attribute(support, name);
     return function ? PyObject_CallObject(function, stolen) : NULL;
@@ -45,7 +52,8 @@ static PyObject *call_support(PyObject *self, const char *name, PyObject *argume
 /* Raises the exception that such a function returns. It steals the arguments. */
 static PyObject *raise_by_support(PyObject *self, const char *name, PyObject *arguments) {
     OWNED *error = call_support(self, name, arguments);
-    if (error) PyErr_SetObject((PyObject *)Py_TYPE(error), error);
+    if (error)
+        PyErr_SetObject((PyObject *)Py_TYPE(error), error);
     return NULL;
 }
 
@@ -68,7 +76,8 @@ PyObject *raise_wrong_type(PyObject *self, const char *wanted, PyObject *given) 
 /* A new object of a type, with valid octets, to which it steals a reference. */
 static PyObject *allocate(PyTypeObject *type, PyObject *octets) {
     Identifier *self = octets ? (Identifier *)PyType_GenericAlloc(type, 0) : NULL;
-    if (!self) return Py_DecRef(octets), NULL;
+    if (!self)
+        return Py_DecRef(octets), NULL;
     self->octets = octets;
     self->items = items_of(octets);
     return (PyObject *)self;
@@ -76,7 +85,8 @@ static PyObject *allocate(PyTypeObject *type, PyObject *octets) {
 
 /* The same by a call of a subclass with a plain identifier, so that its __init__ runs. It steals the octets, too. */
 static PyObject *make(PyTypeObject *type, PyObject *octets) {
-    if (is_plain(type)) return allocate(type, octets);
+    if (is_plain(type))
+        return allocate(type, octets);
     OWNED *plain = allocate(base_of(type), octets);
     return plain ? PyObject_CallFunctionObjArgs((PyObject *)type, plain, NULL) : NULL;
 }
@@ -104,14 +114,17 @@ static int reserve(Output *out, size_t len, size_t size) {
 
 /* An output that is freed at the end of its block, so what follows its declaration is `reserve`. */
 static inline void release(Output *out) {
-    if (out->start != out->room) PyMem_Free(out->start);
+    if (out->start != out->room)
+        PyMem_Free(out->start);
 }
 #define OUTPUT __attribute__((cleanup(release))) Output
 
 /* The octets that a call wrote, or its error. An arc past 32 bits, which it did not get, is wrong if none before is. */
 static PyObject *finish(const Output *out, PyObject *self, const_oid_status status, int is_past, PyObject *given) {
-    if (is_past && (!status.code || status.code == CONST_OID_EMPTY)) status.code = CONST_OID_ARC_TOO_BIG;
-    if (status.code) return raise_status(self, status, given);
+    if (is_past && (!status.code || status.code == CONST_OID_EMPTY))
+        status.code = CONST_OID_ARC_TOO_BIG;
+    if (status.code)
+        return raise_status(self, status, given);
     return PyBytes_FromStringAndSize(out->start, (Py_ssize_t)status.len);
 }
 
@@ -123,9 +136,11 @@ static PyObject *identifier_from_text(PyObject *type, PyObject *text) {
         PyErr_Clear();
         return raise_status(type, (const_oid_status){.code = CONST_OID_NOT_UTF8}, text);
     }
-    if (!data) return NULL;
+    if (!data)
+        return NULL;
     OUTPUT out;
-    if (!reserve(&out, (size_t)len, 1)) return NULL;
+    if (!reserve(&out, (size_t)len, 1))
+        return NULL;
     const_oid_status status = const_oid_from_text(data, (size_t)len, out.start, out.len);
     return allocate((PyTypeObject *)type, finish(&out, type, status, 0, text));
 }
@@ -135,10 +150,14 @@ static PyObject *identifier_new(PyTypeObject *type, PyObject *arguments, PyObjec
     PyObject *given;
     int is_one = keywords ? PyArg_ParseTupleAndKeywords(arguments, keywords, "O:ObjectIdentifier", names, &given)
                           : PyArg_UnpackTuple(arguments, "ObjectIdentifier", 1, 1, &given);
-    if (!is_one) return NULL;
-    if (PyUnicode_Check(given)) return identifier_from_text((PyObject *)type, given);
-    if (!is_identifier(given)) return raise_wrong_type((PyObject *)type, "text must be a str", given);
-    if (Py_TYPE(given) == type && is_plain(type)) return Py_NewRef(given);
+    if (!is_one)
+        return NULL;
+    if (PyUnicode_Check(given))
+        return identifier_from_text((PyObject *)type, given);
+    if (!is_identifier(given))
+        return raise_wrong_type((PyObject *)type, "text must be a str", given);
+    if (Py_TYPE(given) == type && is_plain(type))
+        return Py_NewRef(given);
     return allocate(type, Py_NewRef(((Identifier *)given)->octets));
 }
 
@@ -149,17 +168,22 @@ static int is_octets(PyObject *given) {
 /* A copy of octets. The items of a memoryview may be wider, and are then none. */
 static PyObject *octets_from(PyObject *type, PyObject *given) {
     Py_buffer view;
-    if (PyBytes_CheckExact(given)) return Py_NewRef(given);
-    if (!is_octets(given)) return raise_wrong_type(type, "octets must be bytes, bytearray or memoryview", given);
-    if (PyObject_GetBuffer(given, &view, PyBUF_FULL_RO)) return NULL;
+    if (PyBytes_CheckExact(given))
+        return Py_NewRef(given);
+    if (!is_octets(given))
+        return raise_wrong_type(type, "octets must be bytes, bytearray or memoryview", given);
+    if (PyObject_GetBuffer(given, &view, PyBUF_FULL_RO))
+        return NULL;
     PyBuffer_Release(&view);
-    if (view.itemsize == 1) return PyBytes_FromObject(given);
+    if (view.itemsize == 1)
+        return PyBytes_FromObject(given);
     return PyErr_Format(PyExc_TypeError, "octets must be items of 1 byte, not %zd: see memoryview.cast", view.itemsize);
 }
 
 static PyObject *identifier_from_bytes(PyObject *type, PyObject *given) {
     OWNED *octets = octets_from(type, given);
-    if (!octets) return NULL;
+    if (!octets)
+        return NULL;
     const_oid_octets items = items_of(octets);
     const_oid_status status = const_oid_check(items.octets, items.len);
     return status.code ? raise_status(type, status, octets) : make((PyTypeObject *)type, Py_NewRef(octets));
@@ -171,7 +195,8 @@ static PyObject *identifier_from_bytes(PyObject *type, PyObject *given) {
 /* Raises the error of the element that octets begin with. It keeps no view, which its caller may want to close. */
 static PyObject *raise_element(PyObject *type, const_oid_octets items, const_oid_status status) {
     size_t len = items.len < KEPT_OCTETS ? items.len : KEPT_OCTETS;
-    if (len > 2 && items.octets[1] < len - 2) len = 2 + items.octets[1]; /* a length of one octet */
+    if (len > 2 && items.octets[1] < len - 2)
+        len = 2 + items.octets[1]; /* a length of one octet */
     OWNED *kept = PyBytes_FromStringAndSize((const char *)items.octets, (Py_ssize_t)len);
     return kept ? raise_status(type, status, kept) : NULL;
 }
@@ -180,10 +205,13 @@ static PyObject *raise_element(PyObject *type, const_oid_octets items, const_oid
 static inline PyObject *from_element(PyObject *type, PyObject *octets, const_oid_octets items, int is_whole) {
     const_oid_octets contents = {NULL, 0};
     const_oid_status status = const_oid_from_der(items.octets, items.len, &contents);
-    if (is_whole && !status.code && status.len < items.len) status.code = CONST_OID_NO_ELEMENT;
-    if (status.code) return is_whole ? raise_status(type, status, octets) : raise_element(type, items, status);
+    if (is_whole && !status.code && status.len < items.len)
+        status.code = CONST_OID_NO_ELEMENT;
+    if (status.code)
+        return is_whole ? raise_status(type, status, octets) : raise_element(type, items, status);
     PyObject *oid = identifier_from_items(type, contents);
-    if (is_whole || !oid) return oid;
+    if (is_whole || !oid)
+        return oid;
     return Py_BuildValue("NN", oid, PySequence_GetSlice(octets, (Py_ssize_t)status.len, PTRDIFF_MAX));
 }
 
@@ -192,15 +220,20 @@ static inline PyObject *from_copy(PyObject *type, PyObject *given, int is_whole)
     return octets ? from_element(type, octets, items_of(octets), is_whole) : NULL;
 }
 
-static PyObject *identifier_from_der(PyObject *type, PyObject *given) { return from_copy(type, given, 1); }
+static PyObject *identifier_from_der(PyObject *type, PyObject *given) {
+    return from_copy(type, given, 1);
+}
 
 /* How many octets to copy of those that begin with an element: its own, and what an error keeps. */
 static size_t copied_len(const uint8_t *octets, size_t most) {
-    if (most <= KEPT_OCTETS) return most;
+    if (most <= KEPT_OCTETS)
+        return most;
     size_t len = 0, count = octets[1] ^ 128u; /* of octets of a length above 127, or else more than there can be */
-    for (size_t index = 2; count <= sizeof len && index < 2 + count; index++) len = len << 8 | octets[index];
+    for (size_t index = 2; count <= sizeof len && index < 2 + count; index++)
+        len = len << 8 | octets[index];
     len += 2 + count;
-    if (len < KEPT_OCTETS) return KEPT_OCTETS;
+    if (len < KEPT_OCTETS)
+        return KEPT_OCTETS;
     return len < most ? len : most;
 }
 
@@ -208,15 +241,19 @@ static size_t copied_len(const uint8_t *octets, size_t most) {
  * write to its memory meanwhile, so what is checked is the copy. */
 static PyObject *identifier_read_der(PyObject *type, PyObject *given) {
     Py_buffer view;
-    if (!PyMemoryView_Check(given)) return from_copy(type, given, 0);
+    if (!PyMemoryView_Check(given))
+        return from_copy(type, given, 0);
     OWNED *row = PyMemoryView_GetContiguous(given, PyBUF_READ, 'C');
-    if (!row || PyObject_GetBuffer(row, &view, PyBUF_FULL_RO)) return NULL;
+    if (!row || PyObject_GetBuffer(row, &view, PyBUF_FULL_RO))
+        return NULL;
     OUTPUT copy;
     int is_row = view.ndim == 1 && view.itemsize == 1;
     int has_room = reserve(&copy, is_row ? copied_len(view.buf, (size_t)view.len) : 0, 1);
-    if (has_room) memcpy(copy.start, view.buf, copy.len);
+    if (has_room)
+        memcpy(copy.start, view.buf, copy.len);
     PyBuffer_Release(&view);
-    if (!is_row) return from_copy(type, given, 0);
+    if (!is_row)
+        return from_copy(type, given, 0);
     return has_room ? from_element(type, row, (const_oid_octets){copy.start, copy.len}, 0) : NULL;
 }
 
@@ -224,9 +261,11 @@ static PyObject *identifier_read_der(PyObject *type, PyObject *given) {
 static long long read_arc(PyObject *item) {
     int overflow;
     long long arc = PyLong_AsLongLongAndOverflow(item, &overflow);
-    if (overflow > 0) return INT64_MAX;
+    if (overflow > 0)
+        return INT64_MAX;
     const char *text = overflow ? "an arc is negative" : "an arc is negative: %lld";
-    if (arc < 0 && !PyErr_Occurred()) PyErr_Format(PyExc_ValueError, text, arc);
+    if (arc < 0 && !PyErr_Occurred())
+        PyErr_Format(PyExc_ValueError, text, arc);
     return arc;
 }
 
@@ -235,8 +274,10 @@ static Py_ssize_t read_arcs(PyObject *items, Py_ssize_t count, uint32_t *arcs) {
     Py_ssize_t fitting = count;
     for (Py_ssize_t index = 0; index < count; index++) {
         long long arc = read_arc(PyTuple_GetItem(items, index));
-        if (arc < 0) return -1;
-        if (arc > UINT32_MAX && fitting == count) fitting = index;
+        if (arc < 0)
+            return -1;
+        if (arc > UINT32_MAX && fitting == count)
+            fitting = index;
         arcs[index] = (uint32_t)arc;
     }
     return fitting;
@@ -247,13 +288,17 @@ static PyObject *identifier_from_arcs(PyObject *type, PyObject *given) {
         return raise_wrong_type(type, "arcs must be an iterable of int", given);
     }
     OWNED *items = PySequence_Tuple(given);
-    if (!items) return NULL;
+    if (!items)
+        return NULL;
     OUTPUT arcs;
-    if (!reserve(&arcs, (size_t)PyTuple_Size(items), sizeof(uint32_t))) return NULL;
+    if (!reserve(&arcs, (size_t)PyTuple_Size(items), sizeof(uint32_t)))
+        return NULL;
     Py_ssize_t count = (Py_ssize_t)arcs.len, fitting = read_arcs(items, count, arcs.start);
-    if (fitting < 0) return NULL;
+    if (fitting < 0)
+        return NULL;
     OUTPUT out;
-    if (!reserve(&out, ARC_OCTETS * (size_t)fitting, 1)) return NULL;
+    if (!reserve(&out, ARC_OCTETS * (size_t)fitting, 1))
+        return NULL;
     const_oid_status status = const_oid_from_arcs(arcs.start, (size_t)fitting, out.start, out.len);
     return make((PyTypeObject *)type, finish(&out, type, status, fitting < count, items));
 }
@@ -262,14 +307,17 @@ static PyObject *identifier_from_arcs(PyObject *type, PyObject *given) {
 static PyObject *first_arcs(Identifier *identifier) {
     OUTPUT out;
     const_oid_octets octets = identifier->items;
-    if (!reserve(&out, octets.len + 1, sizeof(uint32_t))) return NULL;
+    if (!reserve(&out, octets.len + 1, sizeof(uint32_t)))
+        return NULL;
     const_oid_status status = const_oid_arcs(octets.octets, octets.len, out.start, out.len);
     PyObject *arcs = PyTuple_New((Py_ssize_t)status.len);
     for (size_t index = 0; arcs && index < status.len; index++) {
         PyObject *arc = PyLong_FromUnsignedLong(((uint32_t *)out.start)[index]);
-        if (!arc || PyTuple_SetItem(arcs, (Py_ssize_t)index, arc)) arcs = (Py_DecRef(arcs), (PyObject *)NULL);
+        if (!arc || PyTuple_SetItem(arcs, (Py_ssize_t)index, arc))
+            arcs = (Py_DecRef(arcs), (PyObject *)NULL);
     }
-    if (!identifier->arcs) return identifier->arcs = arcs;
+    if (!identifier->arcs)
+        return identifier->arcs = arcs;
     Py_DecRef(arcs);
     return arcs ? identifier->arcs : NULL;
 }
@@ -289,7 +337,8 @@ static PyObject *identifier_arcs(PyObject *self, void *Py_UNUSED(closure)) {
 static PyObject *identifier_der(PyObject *self, void *Py_UNUSED(closure)) {
     OUTPUT out;
     const_oid_octets octets = octets_of(self);
-    if (!reserve(&out, octets.len + 2 + sizeof octets.len, 1)) return NULL;
+    if (!reserve(&out, octets.len + 2 + sizeof octets.len, 1))
+        return NULL;
     return finish(&out, self, const_oid_to_der(octets.octets, octets.len, out.start, out.len), 0, self);
 }
 
@@ -297,23 +346,27 @@ static PyObject *identifier_der(PyObject *self, void *Py_UNUSED(closure)) {
 static PyObject *identifier_parent(PyObject *self, void *Py_UNUSED(closure)) {
     const_oid_octets octets = octets_of(self);
     const_oid_status status = const_oid_parent(octets.octets, octets.len, NULL, 0);
-    if (status.code == CONST_OID_NONE) return Py_NewRef(Py_None);
+    if (status.code == CONST_OID_NONE)
+        return Py_NewRef(Py_None);
     return make(Py_TYPE(self), PyBytes_FromStringAndSize((const char *)octets.octets, (Py_ssize_t)status.len));
 }
 
 static PyObject *identifier_child(PyObject *self, PyObject *item) {
     long long arc = read_arc(item);
     const_oid_octets octets = octets_of(self);
-    if (arc < 0) return NULL;
+    if (arc < 0)
+        return NULL;
     OUTPUT out;
-    if (!reserve(&out, octets.len + ARC_OCTETS, 1)) return NULL;
+    if (!reserve(&out, octets.len + ARC_OCTETS, 1))
+        return NULL;
     const_oid_status status = const_oid_push_arc(octets.octets, octets.len, (uint32_t)arc, out.start, out.len);
     return make(Py_TYPE(self), finish(&out, self, status, arc > UINT32_MAX, item));
 }
 
 /* A prefix of the octets of an identifier that is valid itself has a prefix of its arcs. */
 static PyObject *identifier_starts_with(PyObject *self, PyObject *prefix) {
-    if (!is_identifier(prefix)) return raise_wrong_type(self, "prefix must be an ObjectIdentifier", prefix);
+    if (!is_identifier(prefix))
+        return raise_wrong_type(self, "prefix must be an ObjectIdentifier", prefix);
     const_oid_octets octets = octets_of(self), start = octets_of(prefix);
     return PyBool_FromLong(start.len <= octets.len && !memcmp(octets.octets, start.octets, start.len));
 }
@@ -322,7 +375,8 @@ static PyObject *identifier_starts_with(PyObject *self, PyObject *prefix) {
 static PyObject *identifier_str(PyObject *self) {
     OUTPUT out;
     const_oid_octets octets = octets_of(self);
-    if (!reserve(&out, octets.len, 4)) return NULL;
+    if (!reserve(&out, octets.len, 4))
+        return NULL;
     const_oid_status status = const_oid_to_text(octets.octets, octets.len, out.start, 4 * out.len);
     return PyUnicode_FromStringAndSize(out.start, (Py_ssize_t)status.len);
 }
@@ -333,7 +387,8 @@ static PyObject *identifier_repr(PyObject *self) {
 }
 
 static PyObject *identifier_format(PyObject *self, PyObject *specification) {
-    if (!PyUnicode_Check(specification)) return raise_wrong_type(self, "specification must be a str", specification);
+    if (!PyUnicode_Check(specification))
+        return raise_wrong_type(self, "specification must be a str", specification);
     OWNED *text = PyObject_Str(self);
     return text ? PyObject_Format(text, specification) : NULL;
 }
@@ -342,11 +397,15 @@ static PyObject *identifier_bytes(PyObject *self, PyObject *Py_UNUSED(none)) {
     return Py_NewRef(((Identifier *)self)->octets);
 }
 
-static Py_hash_t identifier_hash(PyObject *self) { return PyObject_Hash(((Identifier *)self)->octets); }
+static Py_hash_t identifier_hash(PyObject *self) {
+    return PyObject_Hash(((Identifier *)self)->octets);
+}
 
 static PyObject *identifier_compare(PyObject *self, PyObject *other, int operation) {
-    if (Py_TYPE(self) != Py_TYPE(other) && !is_identifier(other)) return Py_NewRef(Py_NotImplemented);
-    if (operation == Py_EQ || operation == Py_NE) return PyBool_FromLong(is_same(self, other) == (operation == Py_EQ));
+    if (Py_TYPE(self) != Py_TYPE(other) && !is_identifier(other))
+        return Py_NewRef(Py_NotImplemented);
+    if (operation == Py_EQ || operation == Py_NE)
+        return PyBool_FromLong(is_same(self, other) == (operation == Py_EQ));
     int order = const_oid_by_arcs(&((Identifier *)self)->items, &((Identifier *)other)->items);
     int is_less = operation == Py_LT || operation == Py_LE, or_equal = operation == Py_LE || operation == Py_GE;
     return PyBool_FromLong(order ? (order < 0) == is_less : or_equal);
@@ -355,7 +414,8 @@ static PyObject *identifier_compare(PyObject *self, PyObject *other, int operati
 static Py_ssize_t identifier_len(PyObject *self) {
     Identifier *identifier = (Identifier *)self;
     const_oid_octets octets = identifier->items;
-    if (!identifier->count) identifier->count = (Py_ssize_t)const_oid_len(octets.octets, octets.len).len;
+    if (!identifier->count)
+        identifier->count = (Py_ssize_t)const_oid_len(octets.octets, octets.len).len;
     return identifier->count;
 }
 
@@ -390,10 +450,12 @@ static int read_bound(PyObject *item, void *bound) {
 static PyObject *identifier_index(PyObject *self, PyObject *arguments) {
     PyObject *arcs = arcs_of(self), *arc;
     Py_ssize_t index = 0, end = PTRDIFF_MAX;
-    if (!arcs || !PyArg_ParseTuple(arguments, "O|O&O&:index", &arc, read_bound, &index, read_bound, &end)) return NULL;
+    if (!arcs || !PyArg_ParseTuple(arguments, "O|O&O&:index", &arc, read_bound, &index, read_bound, &end))
+        return NULL;
     for (PySlice_AdjustIndices(PyTuple_Size(arcs), &index, &end, 1); index < end; index++) {
         int is_equal = PyObject_RichCompareBool(PyTuple_GetItem(arcs, index), arc, Py_EQ);
-        if (is_equal) return is_equal < 0 ? NULL : PyLong_FromSsize_t(index);
+        if (is_equal)
+            return is_equal < 0 ? NULL : PyLong_FromSsize_t(index);
     }
     return raise_by_support(self, "_not_among", Py_BuildValue("(O)", arc));
 }
@@ -421,12 +483,14 @@ BY_FUNCTION(pydantic_validators)
 static PyObject *identifier_array(PyObject *self, PyObject *arguments, PyObject *keywords) {
     static char *names[] = {"dtype", "copy", NULL};
     PyObject *dtype, *copy;
-    if (!PyArg_ParseTupleAndKeywords(arguments, keywords, "|OO:__array__", names, &dtype, &copy)) return NULL;
+    if (!PyArg_ParseTupleAndKeywords(arguments, keywords, "|OO:__array__", names, &dtype, &copy))
+        return NULL;
     return call_support(self, "_as_array", Py_BuildValue("(O)", self));
 }
 
 static PyObject *identifier_reduce(PyObject *self, PyObject *Py_UNUSED(none)) {
-    if (!is_plain(Py_TYPE(self))) return call_support(self, "_reduced", Py_BuildValue("(O)", self));
+    if (!is_plain(Py_TYPE(self)))
+        return call_support(self, "_reduced", Py_BuildValue("(O)", self));
     PyObject *restored = attribute(PyType_GetModule(Py_TYPE(self)), "restored");
     return Py_BuildValue("N(O)", restored, ((Identifier *)self)->octets);
 }
@@ -434,52 +498,65 @@ static PyObject *identifier_reduce(PyObject *self, PyObject *Py_UNUSED(none)) {
 static PyObject *error_text(PyObject *Py_UNUSED(module), PyObject *arguments) {
     char text[CONST_OID_MAX_ERROR_TEXT];
     long long code, detail;
-    if (!PyArg_ParseTuple(arguments, "LL", &code, &detail)) return NULL;
-    if ((uint64_t)(code | detail) > UINT32_MAX) return PyErr_Format(PyExc_OverflowError, "a number has 32 bits");
+    if (!PyArg_ParseTuple(arguments, "LL", &code, &detail))
+        return NULL;
+    if ((uint64_t)(code | detail) > UINT32_MAX)
+        return PyErr_Format(PyExc_OverflowError, "a number has 32 bits");
     const_oid_status status = const_oid_error_text((uint32_t)code, (uint32_t)detail, text, sizeof text);
-    if (status.code) return Py_NewRef(Py_None);
+    if (status.code)
+        return Py_NewRef(Py_None);
     return PyUnicode_FromStringAndSize(text, (Py_ssize_t)status.len);
 }
 
 static PyObject *wrong_component(PyObject *Py_UNUSED(module), PyObject *text) {
     char *bytes;
     Py_ssize_t len;
-    if (PyBytes_AsStringAndSize(text, &bytes, &len)) return NULL;
+    if (PyBytes_AsStringAndSize(text, &bytes, &len))
+        return NULL;
     const_oid_status status = const_oid_from_text(bytes, (size_t)len, NULL, 0);
-    if (status.code == CONST_OID_OK || status.code == CONST_OID_OUTPUT_TOO_SHORT) return Py_NewRef(Py_None);
+    if (status.code == CONST_OID_OK || status.code == CONST_OID_OUTPUT_TOO_SHORT)
+        return Py_NewRef(Py_None);
     return PyLong_FromSize_t(status.len);
 }
 
 static PyMethodDef identifier_methods[] = {
-    {"from_bytes", identifier_from_bytes, METH_O | METH_CLASS, "from_bytes($type, octets, /)\n--\n\n"
+    {"from_bytes", identifier_from_bytes, METH_O | METH_CLASS,
+        "from_bytes($type, octets, /)\n--\n\n"
         "Decodes contents octets: those after the tag and the length. An element, or the bytes of a text, may be read\n"
         "without an error as another identifier: from_der takes an element, and ObjectIdentifier a text.\n\n"
         ">>> ObjectIdentifier.from_bytes(b\"\\x2a\\x86\\x48\"), ObjectIdentifier.from_bytes(b\"1.2\")\n"
         "(ObjectIdentifier('1.2.840'), ObjectIdentifier('1.9.46.50'))"},
-    {"from_der", identifier_from_der, METH_O | METH_CLASS, "from_der($type, octets, /)\n--\n\n"
+    {"from_der", identifier_from_der, METH_O | METH_CLASS,
+        "from_der($type, octets, /)\n--\n\n"
         "Decodes a whole element of DER: the tag 6, the length and the contents octets, with nothing after them.\n\n"
         ">>> ObjectIdentifier.from_der(b\"\\x06\\x03\\x2a\\x86\\x48\")\nObjectIdentifier('1.2.840')"},
-    {"read_der", identifier_read_der, METH_O | METH_CLASS, "read_der($type, octets, /)\n--\n\n"
+    {"read_der", identifier_read_der, METH_O | METH_CLASS,
+        "read_der($type, octets, /)\n--\n\n"
         "Decodes the element that octets begin with, and returns the identifier and the octets after it. Those of a\n"
         "memoryview of bytes, contiguous, of one dimension, are another one and no copy. An error has the octets of\n"
         "the element, at most 128, so that a loop takes linear time.\n\n"
         ">>> ObjectIdentifier.read_der(b\"\\x06\\x03\\x2a\\x86\\x48\\x05\\x00\")\n"
         "(ObjectIdentifier('1.2.840'), b'\\x05\\x00')"},
-    {"from_arcs", identifier_from_arcs, METH_O | METH_CLASS, "from_arcs($type, arcs, /)\n--\n\n"
+    {"from_arcs", identifier_from_arcs, METH_O | METH_CLASS,
+        "from_arcs($type, arcs, /)\n--\n\n"
         "Encodes arcs. One past 32 bits has the same error as in text, and a negative one is a ValueError. All arcs\n"
         "are read first, so those without an end take all memory.\n\n"
         ">>> ObjectIdentifier.from_arcs([1, 2, 840])\nObjectIdentifier('1.2.840')"},
-    {"child", identifier_child, METH_O, "child($self, arc, /)\n--\n\n"
+    {"child", identifier_child, METH_O,
+        "child($self, arc, /)\n--\n\n"
         "The child with one more arc, which is its last.\n\n"
         ">>> ObjectIdentifier(\"1.2\").child(840)\nObjectIdentifier('1.2.840')"},
-    {"starts_with", identifier_starts_with, METH_O, "starts_with($self, prefix, /)\n--\n\n"
+    {"starts_with", identifier_starts_with, METH_O,
+        "starts_with($self, prefix, /)\n--\n\n"
         "Whether the arcs begin with those of a prefix: whether it is this identifier or an ancestor.\n\n"
         ">>> oid = ObjectIdentifier(\"1.2.840\")\n"
         ">>> [oid.starts_with(ObjectIdentifier(text)) for text in (\"1.2\", \"1.2.840\", \"1.28\")]\n"
         "[True, True, False]"},
-    {"index", identifier_index, METH_VARARGS, "index($self, arc, start=0, stop=sys.maxsize, /)\n--\n\n"
+    {"index", identifier_index, METH_VARARGS,
+        "index($self, arc, start=0, stop=sys.maxsize, /)\n--\n\n"
         "The first index of an arc, or a ValueError.\n\n>>> ObjectIdentifier(\"1.2.840.2\").index(2)\n1"},
-    {"count", identifier_count, METH_O, "count($self, arc, /)\n--\n\n"
+    {"count", identifier_count, METH_O,
+        "count($self, arc, /)\n--\n\n"
         "How often an arc occurs.\n\n>>> ObjectIdentifier(\"1.2.840.2\").count(2)\n2"},
     {"__bytes__", identifier_bytes, METH_NOARGS, "__bytes__($self, /)\n--\n\nThe contents octets."},
     {"__format__", identifier_format, METH_O, "__format__($self, specification, /)\n--\n\nFormats str(self)."},
@@ -495,10 +572,14 @@ static PyMethodDef identifier_methods[] = {
 
 static PyGetSetDef identifier_properties[] = {
     {"arcs", identifier_arcs, NULL, "All arcs, as a tuple.\n\n>>> ObjectIdentifier(\"2.999\").arcs\n(2, 999)", NULL},
-    {"der", identifier_der, NULL, "The element of DER: the tag 6, the length and the contents octets.\n\n"
-        ">>> ObjectIdentifier(\"1.2.840\").der\nb'\\x06\\x03*\\x86H'", NULL},
-    {"parent", identifier_parent, NULL, "The parent: all arcs except the last. None if there are only two.\n\n"
-        ">>> ObjectIdentifier(\"1.2.840\").parent\nObjectIdentifier('1.2')", NULL},
+    {"der", identifier_der, NULL,
+        "The element of DER: the tag 6, the length and the contents octets.\n\n"
+        ">>> ObjectIdentifier(\"1.2.840\").der\nb'\\x06\\x03*\\x86H'",
+        NULL},
+    {"parent", identifier_parent, NULL,
+        "The parent: all arcs except the last. None if there are only two.\n\n"
+        ">>> ObjectIdentifier(\"1.2.840\").parent\nObjectIdentifier('1.2')",
+        NULL},
     {0},
 };
 
@@ -508,7 +589,8 @@ static PyMemberDef identifier_members[] = {
 };
 
 static PyType_Slot identifier_slots[] = {
-    {Py_tp_doc, "ObjectIdentifier(text)\n--\n\nAn object identifier: at least two arcs of 32 bits.\n\n"
+    {Py_tp_doc,
+        "ObjectIdentifier(text)\n--\n\nAn object identifier: at least two arcs of 32 bits.\n\n"
         "The constructor parses dotted text of any length, or returns an identifier that it is given.\n\n"
         ">>> oid = ObjectIdentifier(\"2.999.3\")\n\n"
         "It is an immutable sequence of its arcs (collections.abc.Sequence).\n\n"
@@ -524,18 +606,28 @@ static PyType_Slot identifier_slots[] = {
         "...     def __init__(self, text):\n"
         "...         self.name = names.name_of(ObjectIdentifier(text))\n"
         ">>> Named(\"2.5.4\").child(3).name\n'cn'"},
-    {Py_tp_new, (void *)identifier_new}, {Py_tp_dealloc, (void *)identifier_dealloc},
-    {Py_tp_str, (void *)identifier_str}, {Py_tp_repr, (void *)identifier_repr}, {Py_tp_hash, (void *)identifier_hash},
-    {Py_tp_richcompare, (void *)identifier_compare}, {Py_tp_iter, (void *)identifier_iter},
-    {Py_sq_length, (void *)identifier_len}, {Py_sq_item, (void *)identifier_item},
-    {Py_sq_contains, (void *)identifier_contains}, {Py_mp_subscript, (void *)identifier_subscript},
-    {Py_tp_methods, identifier_methods}, {Py_tp_getset, identifier_properties}, {Py_tp_members, identifier_members},
+    {Py_tp_new, (void *)identifier_new},
+    {Py_tp_dealloc, (void *)identifier_dealloc},
+    {Py_tp_str, (void *)identifier_str},
+    {Py_tp_repr, (void *)identifier_repr},
+    {Py_tp_hash, (void *)identifier_hash},
+    {Py_tp_richcompare, (void *)identifier_compare},
+    {Py_tp_iter, (void *)identifier_iter},
+    {Py_sq_length, (void *)identifier_len},
+    {Py_sq_item, (void *)identifier_item},
+    {Py_sq_contains, (void *)identifier_contains},
+    {Py_mp_subscript, (void *)identifier_subscript},
+    {Py_tp_methods, identifier_methods},
+    {Py_tp_getset, identifier_properties},
+    {Py_tp_members, identifier_members},
     {0},
 };
 
 /* Patterns take it for a sequence by a flag, which headers of the stable ABI do not name. */
 static PyType_Spec identifier_spec = {
-    "const_oid.ObjectIdentifier", sizeof(Identifier), 0,
+    "const_oid.ObjectIdentifier",
+    sizeof(Identifier),
+    0,
     Py_TPFLAGS_DEFAULT | Py_TPFLAGS_BASETYPE | Py_TPFLAGS_IMMUTABLETYPE | (1UL << 5 /* Py_TPFLAGS_SEQUENCE */),
     identifier_slots,
 };
@@ -545,15 +637,18 @@ static int module_exec(PyObject *module) {
     unsigned long version = const_oid_version();
     if (version / 65536 != CONST_OID_VERSION_MAJOR) {
         return PyErr_Format(PyExc_ImportError, "the library const_oid_c has version %lu, not %d", version / 65536,
-            CONST_OID_VERSION_MAJOR), -1;
+                   CONST_OID_VERSION_MAJOR),
+               -1;
     }
     OWNED *text = PyUnicode_FromFormat("%lu.%lu.%lu", version / 65536, version / 256 % 256, version % 256);
     OWNED *type = PyType_FromModuleAndSpec(module, &identifier_spec, NULL);
     /* Nobody can set an attribute of the class, which has its last ones here. By ndim, pandas takes it as one value. */
     OWNED *last = Py_BuildValue("{s(s)si}", "__match_args__", "arcs", "ndim", 0);
     OWNED *attributes = type ? PyObject_GenericGetDict(type, NULL) : NULL;
-    if (!text || !last || !attributes || PyDict_Update(attributes, last) || add_tables(module)) return -1;
-    if (add_names(module, type) || PyModule_AddObjectRef(module, "__version__", text)) return -1;
+    if (!text || !last || !attributes || PyDict_Update(attributes, last) || add_tables(module))
+        return -1;
+    if (add_names(module, type) || PyModule_AddObjectRef(module, "__version__", text))
+        return -1;
     return PyModule_AddType(module, (PyTypeObject *)type);
 }
 
@@ -570,12 +665,16 @@ static int module_clear(PyObject *module) {
     return 0;
 }
 
-static void module_free(void *module) { module_clear(module); }
+static void module_free(void *module) {
+    module_clear(module);
+}
 
 static PyObject *restored(PyObject *module, PyObject *octets) {
     OWNED *type = PyObject_GetAttrString(module, "ObjectIdentifier");
-    if (!type) return NULL;
-    if (PyType_Check(type) && base_of((PyTypeObject *)type)) return identifier_from_bytes(type, octets);
+    if (!type)
+        return NULL;
+    if (PyType_Check(type) && base_of((PyTypeObject *)type))
+        return identifier_from_bytes(type, octets);
     return PyErr_Format(PyExc_TypeError, "%R is no class of identifiers", type);
 }
 
@@ -595,8 +694,13 @@ static PyModuleDef_Slot module_slots[] = {
 
 /* PyModuleDef_Init fills its head: that of a header is for its own Python, so each would make another module. */
 static struct PyModuleDef module = {
-    .m_name = "_native", .m_doc = "Identifiers over const_oid_c.", .m_methods = module_methods,
-    .m_size = sizeof(PyObject *), .m_traverse = module_traverse, .m_clear = module_clear, .m_free = module_free,
+    .m_name = "_native",
+    .m_doc = "Identifiers over const_oid_c.",
+    .m_methods = module_methods,
+    .m_size = sizeof(PyObject *),
+    .m_traverse = module_traverse,
+    .m_clear = module_clear,
+    .m_free = module_free,
 };
 
 PyMODINIT_FUNC PyInit__native(void) {

@@ -12,15 +12,16 @@
 #undef Py_NewRef
 
 /* A reference that is given up at the end of its block, as GCC and clang do it. */
-static inline void give_up(PyObject **reference) { Py_DecRef(*reference); }
+static inline void give_up(PyObject **reference) {
+    Py_DecRef(*reference);
+}
 #define OWNED __attribute__((cleanup(give_up))) PyObject
 
 typedef struct {
-    PyObject_HEAD
-    const_oid_octets items; /* those of `octets` */
-    PyObject *octets;       /* bytes that const_oid_check accepts */
-    PyObject *arcs;         /* a tuple, or NULL before its first use */
-    Py_ssize_t count;       /* how many arcs there are, or 0 before its first use */
+    PyObject_HEAD const_oid_octets items; /* those of `octets` */
+    PyObject *octets;                     /* bytes that const_oid_check accepts */
+    PyObject *arcs;                       /* a tuple, or NULL before its first use */
+    Py_ssize_t count;                     /* how many arcs there are, or 0 before its first use */
     PyObject *weak_references;
 } Identifier;
 
@@ -36,7 +37,9 @@ void identifier_dealloc(PyObject *self);
 PyObject *identifier_from_items(PyObject *type, const_oid_octets items);
 PyObject *raise_component(PyObject *self, const_oid_status status, PyObject *given);
 
-static inline int is_identifier(PyObject *object) { return base_by(Py_TYPE(object), identifier_dealloc) != NULL; }
+static inline int is_identifier(PyObject *object) {
+    return base_by(Py_TYPE(object), identifier_dealloc) != NULL;
+}
 
 /* Equal identifiers have equal octets. */
 static inline int is_same(PyObject *left, PyObject *right) {

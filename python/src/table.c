@@ -45,12 +45,12 @@ typedef struct {
 /* The number of an entry is one more than its index, and 0 is none. */
 typedef struct {
     Entry *entries;
-    uint32_t *slots;            /* numbers of entries by a hash of their keys: see slot_of */
-    Part *parts;                /* indices in the order of the keys themselves, in parts that all have some */
+    uint32_t *slots;                      /* numbers of entries by a hash of their keys: see slot_of */
+    Part *parts;                          /* indices in the order of the keys themselves, in parts that all have some */
     uint32_t part_count, part_room, mask; /* and one less than how many slots there are, a power of two */
-    uint32_t size, used, room;  /* how many entries are there, were there at a time, and have room */
-    uint32_t vacant;            /* the number of the first that was there */
-    unsigned long long version; /* how often keys came or went */
+    uint32_t size, used, room;            /* how many entries are there, were there at a time, and have room */
+    uint32_t vacant;                      /* the number of the first that was there */
+    unsigned long long version;           /* how often keys came or went */
 } Tree;
 
 /* Where a key is in the order, or would be, which may be at the end of any part. */
@@ -60,8 +60,7 @@ typedef struct {
 } Place;
 
 typedef struct {
-    PyObject_HEAD
-    Tree tree;
+    PyObject_HEAD Tree tree;
 } Table;
 
 #define INLINE static inline __attribute__((always_inline))
@@ -77,7 +76,9 @@ static inline int is_key(PyObject *self, PyObject *key) {
     return can_be_key(&((Table *)self)->tree, key) || raise_wrong_type(self, "key must be an ObjectIdentifier", key);
 }
 
-static const const_oid_octets *items_of(PyObject *key) { return &((Identifier *)key)->items; }
+static const const_oid_octets *items_of(PyObject *key) {
+    return &((Identifier *)key)->items;
+}
 
 static void swap_values(Entry *left, Entry *right) {
     PyObject *value = left->value;
@@ -99,23 +100,29 @@ static Code encode(const const_oid_octets *items) {
     const uint8_t *octets = items->octets, *end = octets + (items->len < 16 ? items->len : 16); /* so they have room */
     while (octets < end && (number || out < &room[12])) {
         uint8_t octet = *octets++;
-        if (!number && octet > 127) *(number = out++) = 128;
-        if (number) ++*number;
+        if (!number && octet > 127)
+            *(number = out++) = 128;
+        if (number)
+            ++*number;
         *out++ = octet;
-        if (octet < 128) number = NULL;
+        if (octet < 128)
+            number = NULL;
     }
     return (Code){word_of(room), (uint32_t)(word_of(&room[8]) >> 32), 0};
 }
 
 static int compare_codes(Code left, Code right) {
-    if (left.high != right.high) return left.high < right.high ? -1 : 1;
+    if (left.high != right.high)
+        return left.high < right.high ? -1 : 1;
     return (left.low > right.low) - (left.low < right.low);
 }
 
 /* The hash of bytes, which they keep, and which has the seed of Python. */
 static hashfunc hash_bytes;
 
-static uint32_t hash_of(PyObject *key) { return (uint32_t)hash_bytes(((Identifier *)key)->octets); }
+static uint32_t hash_of(PyObject *key) {
+    return (uint32_t)hash_bytes(((Identifier *)key)->octets);
+}
 
 /* The code of an entry, which it has from the first search that needs it on. */
 static inline Code code_of(Entry *entry) {
@@ -136,8 +143,10 @@ INLINE int begins_with(const Entry *entry, const const_oid_octets *start) {
  * not after them unless it does, too. */
 INLINE int compare(Entry *entry, const const_oid_octets *items, Code code, int is_before) {
     int order = compare_codes(code_of(entry), code);
-    if (order) return order;
-    if (!is_before) return const_oid_by_arcs(items_of(entry->key), items);
+    if (order)
+        return order;
+    if (!is_before)
+        return const_oid_by_arcs(items_of(entry->key), items);
     return begins_with(entry, items) ? items_of(entry->key)->len > items->len : -1;
 }
 
@@ -145,7 +154,8 @@ INLINE int compare(Entry *entry, const const_oid_octets *items, Code code, int i
 static int reserve_run(Run *run, size_t more) {
     size_t room = run->count + run->count / 2 + more;
     Entry *entries = PyMem_Realloc(run->entries, room * sizeof *entries);
-    if (!entries) return PyErr_NoMemory(), -1;
+    if (!entries)
+        return PyErr_NoMemory(), -1;
     run->entries = entries;
     run->room = room;
     return 0;
@@ -154,8 +164,10 @@ static int reserve_run(Run *run, size_t more) {
 /* Appends an entry without its code. For a table, the key may be of any type: that of the last one is no other. */
 static inline int append(PyObject *self, Run *run, PyObject *key, PyObject *value) {
     int is_like_last = run->count && Py_TYPE(key) == Py_TYPE(run->entries[run->count - 1].key);
-    if (self && !is_like_last && !is_key(self, key)) return -1;
-    if (run->count == run->room && reserve_run(run, 4)) return -1;
+    if (self && !is_like_last && !is_key(self, key))
+        return -1;
+    if (run->count == run->room && reserve_run(run, 4))
+        return -1;
     Entry *entry = &run->entries[run->count++];
     entry->key = Py_NewRef(key);
     entry->value = Py_NewRef(value);
@@ -166,7 +178,8 @@ static inline int append(PyObject *self, Run *run, PyObject *key, PyObject *valu
 static void drop(Run *run) {
     for (size_t index = 0; index < run->count; index++) {
         Entry entry = run->entries[index];
-        if (!entry.key) continue;
+        if (!entry.key)
+            continue;
         Py_DecRef(entry.value);
         Py_DecRef(entry.key);
     }
@@ -180,7 +193,8 @@ static int hash_all(Run *run) {
     for (Entry *entry = run->entries, *end = entry + run->count; entry < end; entry++) {
         const const_oid_octets *items = items_of(entry->key);
         entry->code = (Code){.hash = hash_of(entry->key)};
-        if (is_in_order && last) is_in_order = const_oid_by_arcs(last, items) < 0;
+        if (is_in_order && last)
+            is_in_order = const_oid_by_arcs(last, items) < 0;
         last = items;
     }
     return is_in_order;
@@ -195,13 +209,17 @@ static int compare_entries(const void *left, const void *right) {
 /* Sorts a run, if there is memory for it and no two keys are equal, of which the last value counts. */
 static int put_in_order(Run *run) {
     Entry *sorted = PyMem_Malloc(run->count * sizeof *sorted);
-    if (!sorted) return 0;
-    for (size_t index = 0; index < run->count; index++) code_of(&run->entries[index]);
+    if (!sorted)
+        return 0;
+    for (size_t index = 0; index < run->count; index++)
+        code_of(&run->entries[index]);
     memcpy(sorted, run->entries, run->count * sizeof *sorted);
     qsort(sorted, run->count, sizeof *sorted, compare_entries);
     size_t index = 1;
-    while (index < run->count && !is_same(sorted[index - 1].key, sorted[index].key)) index++;
-    if (index >= run->count) memcpy(run->entries, sorted, run->count * sizeof *sorted);
+    while (index < run->count && !is_same(sorted[index - 1].key, sorted[index].key))
+        index++;
+    if (index >= run->count)
+        memcpy(run->entries, sorted, run->count * sizeof *sorted);
     PyMem_Free(sorted);
     return index >= run->count;
 }
@@ -214,7 +232,8 @@ static inline uint32_t slot_of(const Tree *tree, PyObject *key, uint32_t hash) {
     uint32_t mask = tree->mask, at = hash & mask;
     for (; tree->slots[at]; at = (at + 1) & mask) {
         uint32_t number = tree->slots[at] ^ (hash & ~mask);
-        if (number <= mask && is_same(tree->entries[number - 1].key, key)) break;
+        if (number <= mask && is_same(tree->entries[number - 1].key, key))
+            break;
     }
     return at;
 }
@@ -225,12 +244,15 @@ static inline Entry *lookup_hashed(const Tree *tree, PyObject *key, uint32_t has
     return slot ? &tree->entries[(slot & tree->mask) - 1] : NULL;
 }
 
-static inline Entry *lookup(const Tree *tree, PyObject *key) { return lookup_hashed(tree, key, hash_of(key)); }
+static inline Entry *lookup(const Tree *tree, PyObject *key) {
+    return lookup_hashed(tree, key, hash_of(key));
+}
 
 /* Gives an entry, whose key has no slot, one. */
 static inline void fill_slot(uint32_t *slots, uint32_t mask, const Entry *entries, uint32_t index) {
     uint32_t hash = entries[index].code.hash, at = hash & mask;
-    while (slots[at]) at = (at + 1) & mask;
+    while (slots[at])
+        at = (at + 1) & mask;
     slots[at] = (hash & ~mask) | (index + 1);
 }
 
@@ -239,7 +261,8 @@ static void free_slot(Tree *tree, uint32_t hole) {
     uint32_t mask = tree->mask, slot;
     for (uint32_t at = (hole + 1) & mask; (slot = tree->slots[at]); at = (at + 1) & mask) {
         uint32_t first = tree->entries[(slot & mask) - 1].code.hash & mask;
-        if (((at - first) & mask) < ((at - hole) & mask)) continue;
+        if (((at - first) & mask) < ((at - hole) & mask))
+            continue;
         tree->slots[hole] = slot;
         hole = at;
     }
@@ -250,24 +273,30 @@ static void free_slot(Tree *tree, uint32_t hole) {
  * ever were, and so where no index is vacant. */
 static int reserve_slots(Tree *tree, uint32_t size) {
     uint32_t count = tree->slots ? tree->mask + 1 : 8;
-    while (count - count / 3 < size) count *= 2;
-    if (tree->slots && count == tree->mask + 1) return 0;
+    while (count - count / 3 < size)
+        count *= 2;
+    if (tree->slots && count == tree->mask + 1)
+        return 0;
     uint32_t mask = count - 1, used = tree->used, *slots = PyMem_Calloc(count, sizeof *slots);
-    if (!slots) return -1;
+    if (!slots)
+        return -1;
     PyMem_Free(tree->slots);
     tree->slots = slots;
     tree->mask = mask;
-    for (uint32_t index = 0; index < used; index++) fill_slot(slots, mask, tree->entries, index);
+    for (uint32_t index = 0; index < used; index++)
+        fill_slot(slots, mask, tree->entries, index);
     return 0;
 }
 
 /* Makes room for more entries, which changes none. */
 static int reserve(Tree *tree, size_t more) {
     size_t size = tree->size + more, room = size + size / 8 + 3;
-    if (size > MOST) return -1;
+    if (size > MOST)
+        return -1;
     if (size > tree->room) {
         Entry *entries = PyMem_Realloc(tree->entries, room * sizeof *entries);
-        if (!entries) return -1;
+        if (!entries)
+            return -1;
         tree->entries = entries;
         tree->room = (uint32_t)room;
     }
@@ -280,7 +309,8 @@ static int reserve(Tree *tree, size_t more) {
 static inline Entry *next_entry(const Tree *tree, Place *place) {
     const Part *parts = tree->parts;
     uint32_t count = tree->part_count;
-    if (place->part < count && place->index == parts[place->part].count) *place = (Place){place->part + 1, 0, 0};
+    if (place->part < count && place->index == parts[place->part].count)
+        *place = (Place){place->part + 1, 0, 0};
     return place->part < count ? &tree->entries[parts[place->part].indices[place->index++]] : NULL;
 }
 
@@ -296,7 +326,8 @@ INLINE uint32_t find_part(const Tree *tree, uint32_t end, const const_oid_octets
     while (first < end) {
         uint32_t middle = (first + end) / 2;
         int order = compare_codes(tree->parts[middle].bound, code);
-        if (!order) order = compare(last_entry(tree, middle), items, code, is_before);
+        if (!order)
+            order = compare(last_entry(tree, middle), items, code, is_before);
         first = order < 0 ? middle + 1 : first;
         end = order < 0 ? end : middle;
     }
@@ -310,9 +341,12 @@ INLINE Place find_up_to(const Tree *tree, Place most, const const_oid_octets *it
     for (uint32_t end = place.part < most.part ? part->count : most.index; place.index < end;) {
         uint32_t middle = (place.index + end) / 2;
         int order = compare(&tree->entries[part->indices[middle]], items, code, is_before);
-        if (!order) return (Place){place.part, middle, 1};
-        if (order < 0) place.index = middle + 1;
-        else end = middle;
+        if (!order)
+            return (Place){place.part, middle, 1};
+        if (order < 0)
+            place.index = middle + 1;
+        else
+            end = middle;
     }
     return place;
 }
@@ -320,26 +354,33 @@ INLINE Place find_up_to(const Tree *tree, Place most, const const_oid_octets *it
 /* The same among all. That after all is found at once. */
 static Place find(const Tree *tree, const const_oid_octets *items, Code code) {
     uint32_t last = tree->part_count - 1;
-    if (!tree->size) return (Place){0, 0, 0};
+    if (!tree->size)
+        return (Place){0, 0, 0};
     Place end = {last, tree->parts[last].count, 0};
     return compare(last_entry(tree, last), items, code, 0) < 0 ? end : find_up_to(tree, end, items, code, 0);
 }
 
-static Place place_of(const Tree *tree, Entry *entry) { return find(tree, items_of(entry->key), code_of(entry)); }
+static Place place_of(const Tree *tree, Entry *entry) {
+    return find(tree, items_of(entry->key), code_of(entry));
+}
 
 /* The entry at a place that some items have, or else the one before it. NULL before all. */
 static const Entry *entry_up_to(const Tree *tree, Place place) {
-    if (!place.is_there && !place.index) return place.part ? last_entry(tree, place.part - 1) : NULL;
+    if (!place.is_there && !place.index)
+        return place.part ? last_entry(tree, place.part - 1) : NULL;
     return &tree->entries[tree->parts[place.part].indices[place.index - !place.is_there]];
 }
 
 /* The most keys of a part. They grow with the number of parts, all of which may have to move for one more. */
-static uint32_t most_of(const Tree *tree) { return tree->part_count < 32 * PART ? PART : tree->part_count / 16; }
+static uint32_t most_of(const Tree *tree) {
+    return tree->part_count < 32 * PART ? PART : tree->part_count / 16;
+}
 
 /* Gives a part room for at least one index more than a count: for a multiple of eight, which is 32 octets. */
 static int resize(Part *part, uint32_t count) {
     uint32_t room = (count | 7) + 1, *indices = PyMem_Realloc(part->indices, room * sizeof *indices);
-    if (!indices) return -1;
+    if (!indices)
+        return -1;
     part->indices = indices;
     part->room = room;
     return 0;
@@ -351,11 +392,13 @@ static int add_part(Tree *tree, uint32_t at, uint32_t count) {
     if (tree->part_count == tree->part_room) {
         uint32_t room = tree->part_room + tree->part_room / 4 + 1;
         Part *parts = PyMem_Realloc(tree->parts, room * sizeof *parts);
-        if (!parts) return -1;
+        if (!parts)
+            return -1;
         tree->parts = parts;
         tree->part_room = room;
     }
-    if (resize(&part, count)) return -1;
+    if (resize(&part, count))
+        return -1;
     memmove(&tree->parts[at + 1], &tree->parts[at], (tree->part_count++ - at) * sizeof part);
     tree->parts[at] = part;
     return 0;
@@ -364,21 +407,26 @@ static int add_part(Tree *tree, uint32_t at, uint32_t count) {
 /* Makes room for an index at a place, in a full part by cutting it in two, of which the other has no more room than it
  * needs. Keys that come in order fill parts. */
 static int make_room(Tree *tree, Place *place) {
-    if (!tree->part_count) return add_part(tree, 0, 0);
+    if (!tree->part_count)
+        return add_part(tree, 0, 0);
     Part *first = &tree->parts[place->part];
     uint32_t count = first->count;
-    if (count < most_of(tree)) return count < first->room ? 0 : resize(first, count);
+    if (count < most_of(tree))
+        return count < first->room ? 0 : resize(first, count);
     int is_last = place->part == tree->part_count - 1 && place->index == count;
     uint32_t kept = is_last ? count : count / 2, moved = count - kept;
     uint32_t is_moved = place->index >= kept;
-    if (add_part(tree, place->part + 1, moved - !is_moved)) return -1;
+    if (add_part(tree, place->part + 1, moved - !is_moved))
+        return -1;
     first = &tree->parts[place->part];
     memcpy(first[1].indices, &first->indices[kept], moved * sizeof *first->indices);
     first[1] = (Part){first->bound, first[1].indices, moved, first[1].room};
     first->count = kept;
     first->bound = code_of(last_entry(tree, place->part));
-    if (moved) resize(first, kept - is_moved); /* to less, or else it stays as it is */
-    if (is_moved) *place = (Place){place->part + 1, place->index - kept, 0};
+    if (moved)
+        resize(first, kept - is_moved); /* to less, or else it stays as it is */
+    if (is_moved)
+        *place = (Place){place->part + 1, place->index - kept, 0};
     return 0;
 }
 
@@ -387,7 +435,8 @@ static int make_room(Tree *tree, Place *place) {
 /* Gives up a tree that no table has any more. */
 static void drop_tree(Tree tree) {
     Run run = {.entries = tree.entries, .count = tree.used};
-    while (tree.part_count) PyMem_Free(tree.parts[--tree.part_count].indices);
+    while (tree.part_count)
+        PyMem_Free(tree.parts[--tree.part_count].indices);
     PyMem_Free(tree.parts);
     PyMem_Free(tree.slots);
     drop(&run);
@@ -404,9 +453,11 @@ static void clear(Tree *tree) {
 static int fill_parts(Tree *tree) {
     for (uint32_t index = 0; index < tree->size;) {
         uint32_t left = tree->size - index, most = most_of(tree), count = left < most ? left : most;
-        if (add_part(tree, tree->part_count, count - 1)) return -1;
+        if (add_part(tree, tree->part_count, count - 1))
+            return -1;
         Part *part = &tree->parts[tree->part_count - 1];
-        for (uint32_t at = 0; at < count; at++) part->indices[at] = index++;
+        for (uint32_t at = 0; at < count; at++)
+            part->indices[at] = index++;
         part->count = count;
         part->bound = code_of(&tree->entries[index - 1]);
     }
@@ -416,13 +467,16 @@ static int fill_parts(Tree *tree) {
 /* Gives a tree the entries of a run, which are in order, in place of its own. */
 static int fill(Tree *tree, Run *run) {
     Entry *entries = run->count > MOST ? NULL : PyMem_Realloc(run->entries, run->count * sizeof *entries);
-    if (!entries) return -1;
+    if (!entries)
+        return -1;
     run->entries = entries;
     Tree other = *tree, made = {.entries = entries, .version = other.version + 1};
     made.size = made.used = made.room = (uint32_t)run->count;
     int error = reserve_slots(&made, made.size) || fill_parts(&made);
-    if (!error) *tree = made, *run = (Run){0};
-    else other = (Tree){.slots = made.slots, .parts = made.parts, .part_count = made.part_count};
+    if (!error)
+        *tree = made, *run = (Run){0};
+    else
+        other = (Tree){.slots = made.slots, .parts = made.parts, .part_count = made.part_count};
     drop_tree(other);
     return error;
 }
@@ -433,10 +487,13 @@ static __attribute__((noinline)) void shrink(Tree *tree) {
     Run run = {.entries = PyMem_Malloc(tree->size * sizeof *run.entries)};
     Place place = {0, 0, 0};
     uint32_t used = tree->used;
-    while (run.entries && run.count < tree->size) run.entries[run.count++] = *next_entry(tree, &place);
+    while (run.entries && run.count < tree->size)
+        run.entries[run.count++] = *next_entry(tree, &place);
     tree->used = 0; /* the run has the references */
-    if (!tree->size) clear(tree);
-    else if (!run.entries || fill(tree, &run)) tree->used = used;
+    if (!tree->size)
+        clear(tree);
+    else if (!run.entries || fill(tree, &run))
+        tree->used = used;
     PyMem_Free(run.entries);
 }
 
@@ -444,14 +501,16 @@ static __attribute__((noinline)) void shrink(Tree *tree) {
 static int add(Tree *tree, Entry entry) {
     Place place = place_of(tree, &entry);
     if (reserve(tree, 1) || make_room(tree, &place)) {
-        if (!tree->size) clear(tree);
+        if (!tree->size)
+            clear(tree);
         return -1;
     }
     Part *part = &tree->parts[place.part];
     uint32_t *at = &part->indices[place.index];
     memmove(at + 1, at, (part->count++ - place.index) * sizeof *at);
     uint32_t index = *at = tree->vacant ? tree->vacant - 1 : tree->used++;
-    if (tree->vacant) tree->vacant = (uint32_t)tree->entries[index].vacant;
+    if (tree->vacant)
+        tree->vacant = (uint32_t)tree->entries[index].vacant;
     tree->entries[index] = entry;
     fill_slot(tree->slots, tree->mask, tree->entries, index);
     tree->size++;
@@ -474,33 +533,42 @@ static Entry take(Tree *tree, Place place) {
     tree->entries[index] = (Entry){.vacant = tree->vacant};
     tree->vacant = index + 1;
     tree->version++;
-    if (--tree->size <= tree->room / 8) shrink(tree);
+    if (--tree->size <= tree->room / 8)
+        shrink(tree);
     return entry;
 }
 
 /* Sets an entry. Gives back the value of before, or, if its key was not there, the key in place of a value. */
 static int exchange(Tree *tree, Entry *entry) {
     Entry *there = lookup(tree, entry->key);
-    if (there) return swap_values(there, entry), 0;
-    if (add(tree, *entry)) return -1;
+    if (there)
+        return swap_values(there, entry), 0;
+    if (add(tree, *entry))
+        return -1;
     *entry = (Entry){.value = entry->key};
     return 0;
 }
 
 /* Undoes this, for which no memory is needed. */
 static void change_back(Tree *tree, Entry *entry) {
-    if (entry->key) swap_values(lookup(tree, entry->key), entry);
-    else *entry = take(tree, place_of(tree, lookup(tree, entry->value)));
+    if (entry->key)
+        swap_values(lookup(tree, entry->key), entry);
+    else
+        *entry = take(tree, place_of(tree, lookup(tree, entry->value)));
 }
 
 /* Sets all entries of a run, or none, with MemoryError. The run then has what is no longer needed. */
 static int update(Tree *tree, Run *run) {
     size_t done = 0;
     int is_in_order = hash_all(run) || (!tree->size && put_in_order(run));
-    if (is_in_order && !tree->size && run->count) return fill(tree, run) ? PyErr_NoMemory(), -1 : 0;
-    while (done < run->count && !exchange(tree, &run->entries[done])) done++;
-    if (done == run->count) return 0;
-    while (done--) change_back(tree, &run->entries[done]);
+    if (is_in_order && !tree->size && run->count)
+        return fill(tree, run) ? PyErr_NoMemory(), -1 : 0;
+    while (done < run->count && !exchange(tree, &run->entries[done]))
+        done++;
+    if (done == run->count)
+        return 0;
+    while (done--)
+        change_back(tree, &run->entries[done]);
     return PyErr_NoMemory(), -1;
 }
 
@@ -522,7 +590,8 @@ void table_dealloc(PyObject *self) {
 static int table_traverse(PyObject *self, visitproc visit, void *arg) {
     const Tree *tree = &((Table *)self)->tree;
     for (uint32_t index = 0; index < tree->used; index++) {
-        if (!tree->entries[index].key) continue;
+        if (!tree->entries[index].key)
+            continue;
         Py_VISIT(tree->entries[index].key);
         Py_VISIT(tree->entries[index].value);
     }
@@ -530,16 +599,21 @@ static int table_traverse(PyObject *self, visitproc visit, void *arg) {
     return 0;
 }
 
-static PyObject *raise_missing(PyObject *key) { return PyErr_SetObject(PyExc_KeyError, key), (PyObject *)NULL; }
+static PyObject *raise_missing(PyObject *key) {
+    return PyErr_SetObject(PyExc_KeyError, key), (PyObject *)NULL;
+}
 
-static Py_ssize_t table_len(PyObject *self) { return ((Table *)self)->tree.size; }
+static Py_ssize_t table_len(PyObject *self) {
+    return ((Table *)self)->tree.size;
+}
 
 static int table_contains(PyObject *self, PyObject *key) {
     return is_key(self, key) ? lookup(&((Table *)self)->tree, key) != NULL : -1;
 }
 
 static PyObject *table_subscript(PyObject *self, PyObject *key) {
-    if (!is_key(self, key)) return NULL;
+    if (!is_key(self, key))
+        return NULL;
     const Entry *entry = lookup(&((Table *)self)->tree, key);
     return entry ? Py_NewRef(entry->value) : raise_missing(key);
 }
@@ -547,7 +621,8 @@ static PyObject *table_subscript(PyObject *self, PyObject *key) {
 /* Puts an entry in, whose key is not there. */
 static int add_new(Tree *tree, PyObject *key, PyObject *value) {
     Entry entry = {Py_NewRef(key), {Py_NewRef(value)}, {.hash = hash_of(key)}};
-    if (!add(tree, entry)) return 0;
+    if (!add(tree, entry))
+        return 0;
     Py_DecRef(value);
     Py_DecRef(key);
     return PyErr_NoMemory(), -1;
@@ -555,25 +630,31 @@ static int add_new(Tree *tree, PyObject *key, PyObject *value) {
 
 static int table_set(PyObject *self, PyObject *key, PyObject *value) {
     Tree *tree = &((Table *)self)->tree;
-    if (!is_key(self, key)) return -1;
+    if (!is_key(self, key))
+        return -1;
     Entry *there = lookup(tree, key), entry = {.value = value};
-    if (!there) return value ? add_new(tree, key, value) : (raise_missing(key), -1);
-    if (value) swap_values(there, &entry), Py_IncRef(value);
-    else entry = take(tree, place_of(tree, there));
+    if (!there)
+        return value ? add_new(tree, key, value) : (raise_missing(key), -1);
+    if (value)
+        swap_values(there, &entry), Py_IncRef(value);
+    else
+        entry = take(tree, place_of(tree, there));
     Py_DecRef(entry.value);
     Py_DecRef(entry.key);
     return 0;
 }
 
 /* Reads the arguments of a call, one or two, by place or name. */
-static int read_named(PyObject *const *given, Py_ssize_t count, PyObject *names, const char *format, char **wanted,
-    PyObject **values) {
+static int read_named(
+    PyObject *const *given, Py_ssize_t count, PyObject *names, const char *format, char **wanted, PyObject **values) {
     Py_ssize_t named = names ? PyTuple_Size(names) : 0;
     OWNED *places = PyTuple_New(count), *keywords = PyDict_New();
     int error = !places || !keywords;
     for (Py_ssize_t index = 0; !error && index < count + named; index++) {
-        if (index < count) error = PyTuple_SetItem(places, index, Py_NewRef(given[index]));
-        else error = PyDict_SetItem(keywords, PyTuple_GetItem(names, index - count), given[index]);
+        if (index < count)
+            error = PyTuple_SetItem(places, index, Py_NewRef(given[index]));
+        else
+            error = PyDict_SetItem(keywords, PyTuple_GetItem(names, index - count), given[index]);
     }
     return !error && PyArg_ParseTupleAndKeywords(places, keywords, format, wanted, &values[0], &values[1]);
 }
@@ -584,12 +665,14 @@ static int read_named(PyObject *const *given, Py_ssize_t count, PyObject *names,
     static char *wanted[] = {__VA_ARGS__, NULL}; \
     PyObject *values[2] = {NULL, NULL}; \
     if (names || (size_t)count - 1 >= most) { \
-        if (!read_named(given, count, names, format, wanted, values)) return NULL; \
+        if (!read_named(given, count, names, format, wanted, values)) \
+            return NULL; \
         given = values, count = most; \
     } \
     PyObject *key = given[0]; \
     Tree *tree = &((Table *)self)->tree; \
-    if (!is_key(self, key)) return NULL
+    if (!is_key(self, key)) \
+    return NULL
 
 WITH_KEY(table_get) {
     READ("O|O:get", 2, "key", "default");
@@ -600,7 +683,8 @@ WITH_KEY(table_get) {
 WITH_KEY(table_pop) {
     READ("O|O:pop", 2, "key", "default");
     Entry *there = lookup(tree, key);
-    if (!there) return count > 1 && given[1] ? Py_NewRef(given[1]) : raise_missing(key);
+    if (!there)
+        return count > 1 && given[1] ? Py_NewRef(given[1]) : raise_missing(key);
     Entry entry = take(tree, place_of(tree, there));
     Py_DecRef(entry.key);
     return entry.value;
@@ -609,7 +693,8 @@ WITH_KEY(table_pop) {
 WITH_KEY(table_setdefault) {
     READ("O|O:setdefault", 2, "key", "default");
     const Entry *entry = lookup(tree, key);
-    if (entry) return Py_NewRef(entry->value);
+    if (entry)
+        return Py_NewRef(entry->value);
     PyObject *value = count > 1 && given[1] ? given[1] : Py_None;
     return add_new(tree, key, value) ? NULL : Py_NewRef(value);
 }
@@ -617,7 +702,8 @@ WITH_KEY(table_setdefault) {
 /* A tuple of a key and a value, whose references it takes over. */
 static PyObject *pair_of(PyObject *key, PyObject *value) {
     PyObject *pair = PyTuple_New(2);
-    if (!pair) return Py_DecRef(value), Py_DecRef(key), (PyObject *)NULL;
+    if (!pair)
+        return Py_DecRef(value), Py_DecRef(key), (PyObject *)NULL;
     PyTuple_SetItem(pair, 0, key);
     PyTuple_SetItem(pair, 1, value);
     return pair;
@@ -632,8 +718,10 @@ static __attribute__((noinline)) PyObject *pair_of_entry(const Entry *entry) {
 static PyObject *table_popitem(PyObject *self, PyObject *Py_UNUSED(none)) {
     Tree *tree = &((Table *)self)->tree;
     OWNED *pair = PyTuple_New(2);
-    if (!pair) return NULL;
-    if (!tree->size) return PyErr_SetString(PyExc_KeyError, "popitem(): the map is empty"), NULL;
+    if (!pair)
+        return NULL;
+    if (!tree->size)
+        return PyErr_SetString(PyExc_KeyError, "popitem(): the map is empty"), NULL;
     uint32_t part = tree->part_count - 1;
     Entry entry = take(tree, (Place){part, tree->parts[part].count - 1, 1});
     PyTuple_SetItem(pair, 0, entry.key);
@@ -649,9 +737,12 @@ static PyObject *table_clear(PyObject *self, PyObject *Py_UNUSED(none)) {
 /* How many octets the arcs take that two keys begin with. */
 static size_t common_len(const const_oid_octets *left, const const_oid_octets *right) {
     size_t common = 0, most = left->len < right->len ? left->len : right->len;
-    while (common + 8 <= most && word_of(&left->octets[common]) == word_of(&right->octets[common])) common += 8;
-    while (common < most && left->octets[common] == right->octets[common]) common++;
-    while (common && left->octets[common - 1] > 127) common--;
+    while (common + 8 <= most && word_of(&left->octets[common]) == word_of(&right->octets[common]))
+        common += 8;
+    while (common < most && left->octets[common] == right->octets[common])
+        common++;
+    while (common && left->octets[common - 1] > 127)
+        common--;
     return common;
 }
 
@@ -659,12 +750,14 @@ static size_t common_len(const const_oid_octets *left, const const_oid_octets *r
 WITH_KEY(table_nearest) {
     READ("O:nearest", 1, "oid");
     const Entry *entry = lookup(tree, key);
-    if (entry) return pair_of_entry(entry);
+    if (entry)
+        return pair_of_entry(entry);
     const_oid_octets above = *items_of(key);
     Place place = find(tree, &above, encode(&above));
     while ((entry = entry_up_to(tree, place))) {
         above.len = common_len(&above, items_of(entry->key));
-        if (above.len == items_of(entry->key)->len) return pair_of_entry(entry);
+        if (above.len == items_of(entry->key)->len)
+            return pair_of_entry(entry);
         place = find_up_to(tree, place, &above, encode(&above), 1);
     }
     return Py_NewRef(Py_None);
@@ -682,7 +775,8 @@ WITH_KEY(table_next_after) {
 static int append_all(const Tree *tree, Place place, const const_oid_octets *start, Run *run) {
     int error = 0;
     for (const Entry *entry; !error && (entry = next_entry(tree, &place));) {
-        if (start && !begins_with(entry, start)) break;
+        if (start && !begins_with(entry, start))
+            break;
         error = append(NULL, run, entry->key, entry->value);
     }
     return error;
@@ -715,7 +809,8 @@ static PyObject *table_sizeof(PyObject *self, PyObject *Py_UNUSED(none)) {
     OWNED *own = PyObject_CallMethod((PyObject *)&PyBaseObject_Type, "__sizeof__", "O", self);
     size_t size = own ? PyLong_AsSize_t(own) : 0, slots = tree->slots ? (size_t)tree->mask + 1 : 0;
     size += tree->room * sizeof(Entry) + (size_t)tree->part_room * sizeof(Part);
-    for (uint32_t at = 0; at < tree->part_count; at++) slots += tree->parts[at].room;
+    for (uint32_t at = 0; at < tree->part_count; at++)
+        slots += tree->parts[at].room;
     return own ? PyLong_FromSize_t(size + slots * sizeof *tree->slots) : NULL;
 }
 
@@ -729,8 +824,10 @@ static int collect_pair(PyObject *self, PyObject *item, Run *run) {
     int is_iterable = PyType_GetSlot(Py_TYPE(item), Py_tp_iter) || PySequence_Check(item);
     OWNED *pair = is_iterable ? PySequence_Tuple(item) : raise_wrong_type(self, wanted, item);
     Py_ssize_t size = pair ? PyTuple_Size(pair) : -1;
-    if (size == 2) return append(self, run, PyTuple_GetItem(pair, 0), PyTuple_GetItem(pair, 1));
-    if (pair) PyErr_Format(PyExc_ValueError, "%s, not %zd items: %R", wanted, size, item);
+    if (size == 2)
+        return append(self, run, PyTuple_GetItem(pair, 0), PyTuple_GetItem(pair, 1));
+    if (pair)
+        PyErr_Format(PyExc_ValueError, "%s, not %zd items: %R", wanted, size, item);
     return -1;
 }
 
@@ -740,7 +837,8 @@ static int collect_items(PyObject *self, PyObject *items, PyObject *mapping, Run
     int error = !walk;
     while (!error) {
         OWNED *item = PyIter_Next(walk), *value = item && mapping ? PyObject_GetItem(mapping, item) : NULL;
-        if (!item) return PyErr_Occurred() ? -1 : 0;
+        if (!item)
+            return PyErr_Occurred() ? -1 : 0;
         error = mapping ? !value || append(self, run, item, value) : collect_pair(self, item, run);
     }
     return -1;
@@ -751,7 +849,8 @@ static int collect_dict(PyObject *self, PyObject *given, Run *run) {
     PyObject *key, *value;
     Py_ssize_t at = 0;
     int error = reserve_run(run, (size_t)PyDict_Size(given));
-    while (!error && PyDict_Next(given, &at, &key, &value)) error = append(self, run, key, value);
+    while (!error && PyDict_Next(given, &at, &key, &value))
+        error = append(self, run, key, value);
     return error ? -1 : 0;
 }
 
@@ -759,10 +858,13 @@ static int collect_dict(PyObject *self, PyObject *given, Run *run) {
  * with the iterator of these, as they are. */
 static int collect(PyObject *self, PyObject *given, Run *run) {
     void *iter = PyType_GetSlot(Py_TYPE(given), Py_tp_iter);
-    if (iter == (void *)table_iter) return append_all(&((Table *)given)->tree, (Place){0, 0, 0}, NULL, run);
-    if (PyDict_Check(given) && iter == PyType_GetSlot(&PyDict_Type, Py_tp_iter)) return collect_dict(self, given, run);
+    if (iter == (void *)table_iter)
+        return append_all(&((Table *)given)->tree, (Place){0, 0, 0}, NULL, run);
+    if (PyDict_Check(given) && iter == PyType_GetSlot(&PyDict_Type, Py_tp_iter))
+        return collect_dict(self, given, run);
     OWNED *method = attribute(given, "keys");
-    if (!method && !PyErr_ExceptionMatches(PyExc_AttributeError)) return -1;
+    if (!method && !PyErr_ExceptionMatches(PyExc_AttributeError))
+        return -1;
     PyErr_Clear();
     OWNED *keys = method ? PyObject_CallNoArgs(method) : Py_NewRef(given);
     return collect_items(self, keys, method ? given : NULL, run);
@@ -779,13 +881,15 @@ static int set_all(PyObject *self, PyObject *given) {
 static int table_init(PyObject *self, PyObject *arguments, PyObject *keywords) {
     static char *names[] = {"entries", NULL};
     PyObject *entries = NULL;
-    if (!PyArg_ParseTupleAndKeywords(arguments, keywords, "|O:SortedMap", names, &entries)) return -1;
+    if (!PyArg_ParseTupleAndKeywords(arguments, keywords, "|O:SortedMap", names, &entries))
+        return -1;
     return set_all(self, entries);
 }
 
 static PyObject *table_update(PyObject *self, PyObject *arguments) {
     PyObject *entries = NULL;
-    if (!PyArg_UnpackTuple(arguments, "update", 0, 1, &entries)) return NULL;
+    if (!PyArg_UnpackTuple(arguments, "update", 0, 1, &entries))
+        return NULL;
     return set_all(self, entries) ? NULL : Py_NewRef(Py_None);
 }
 
@@ -796,11 +900,14 @@ static PyObject *table_update(PyObject *self, PyObject *arguments) {
 static int pair_values(const Tree *tree, const Tree *other, Run *pairs) {
     Place place = {0, 0, 0}, at = {0, 0, 0};
     int error = 0;
-    if (tree->size != other->size) return 0;
+    if (tree->size != other->size)
+        return 0;
     for (const Entry *one; !error && (one = next_entry(tree, &place));) {
         const Entry *same = next_entry(other, &at);
-        if (!is_same(one->key, same->key)) return 0;
-        if (one->value != same->value) error = append(NULL, pairs, one->value, same->value);
+        if (!is_same(one->key, same->key))
+            return 0;
+        if (one->value != same->value)
+            error = append(NULL, pairs, one->value, same->value);
     }
     return error ? -1 : 1;
 }
@@ -817,21 +924,25 @@ static int find_values(const Tree *tree, PyObject *dict, PyObject **values) {
     int found = 1, count = AT_ONCE;
     while (count == AT_ONCE) {
         for (count = 0; count < AT_ONCE && PyDict_Next(dict, &at, &keys[count], &others[count]); count++) {
-            if (!can_be_key(tree, keys[count])) return 0;
+            if (!can_be_key(tree, keys[count]))
+                return 0;
             hashes[count] = hash_of(keys[count]);
             __builtin_prefetch(&tree->slots[hashes[count] & tree->mask]);
         }
         for (int index = 0; index < count; index++) {
             uint32_t number = tree->slots[hashes[index] & tree->mask] & tree->mask;
-            if (!number) return 0;
+            if (!number)
+                return 0;
             __builtin_prefetch(&tree->entries[number - 1]);
             __builtin_prefetch(&values[number - 1]);
         }
         for (int index = 0; index < count; index++) {
             const Entry *entry = lookup_hashed(tree, keys[index], hashes[index]);
-            if (!entry || values[entry - tree->entries]) return 0;
+            if (!entry || values[entry - tree->entries])
+                return 0;
             values[entry - tree->entries] = others[index];
-            if (others[index] != entry->value) found = 2;
+            if (others[index] != entry->value)
+                found = 2;
         }
     }
     return found;
@@ -839,14 +950,17 @@ static int find_values(const Tree *tree, PyObject *dict, PyObject **values) {
 
 /* The same as of another tree. */
 static int pair_dict(const Tree *tree, PyObject *dict, Run *pairs) {
-    if (PyDict_Size(dict) != tree->size) return 0;
+    if (PyDict_Size(dict) != tree->size)
+        return 0;
     PyObject **values = PyMem_Calloc(tree->used, sizeof *values);
-    if (!values) return PyErr_NoMemory(), -1;
+    if (!values)
+        return PyErr_NoMemory(), -1;
     int found = find_values(tree, dict, values);
     Place place = {0, 0, 0};
     for (const Entry *one; found > 1 && (one = next_entry(tree, &place));) {
         PyObject *other = values[one - tree->entries];
-        if (one->value != other && append(NULL, pairs, one->value, other)) found = -1;
+        if (one->value != other && append(NULL, pairs, one->value, other))
+            found = -1;
     }
     PyMem_Free(values);
     return found;
@@ -866,9 +980,12 @@ static PyObject *table_equals(PyObject *self, PyObject *other) {
     const Tree *tree = &((Table *)self)->tree;
     Run pairs = {0};
     int found;
-    if (base_by(Py_TYPE(other), table_dealloc)) found = pair_values(tree, &((Table *)other)->tree, &pairs);
-    else if (PyDict_Check(other)) found = pair_dict(tree, other, &pairs);
-    else return Py_NewRef(Py_None);
+    if (base_by(Py_TYPE(other), table_dealloc))
+        found = pair_values(tree, &((Table *)other)->tree, &pairs);
+    else if (PyDict_Check(other))
+        found = pair_dict(tree, other, &pairs);
+    else
+        return Py_NewRef(Py_None);
     found = are_equal(&pairs, found);
     drop(&pairs);
     return found < 0 ? NULL : PyBool_FromLong(found);
@@ -878,14 +995,13 @@ static PyObject *table_equals(PyObject *self, PyObject *other) {
 
 /* The keys, values or entries of a table. */
 typedef struct {
-    PyObject_HEAD
-    PyObject *table;
+    PyObject_HEAD PyObject *table;
     unsigned char kind;
 } View;
 
 /* An iterator over them, forth or back. */
 typedef struct {
-    View view;               /* without a table after its end */
+    View view; /* without a table after its end */
     unsigned long long version;
     const uint32_t *indices; /* those of a part */
     uint32_t at, end, step;  /* the next one, what comes after the last, and 1, or UINT32_MAX, which is back */
@@ -929,18 +1045,22 @@ static __attribute__((noinline)) PyObject *walk_on(Walk *walk) {
     walk->end = walk->at + part->count * walk->step;
     walk->left -= part->count;
     int are_far = walk->view.kind != VALUES && tree->part_count > PART; /* keys, which no cache has */
-    for (uint32_t at = 0; are_far && at < part->count; at++) __builtin_prefetch(tree->entries[part->indices[at]].key);
+    for (uint32_t at = 0; are_far && at < part->count; at++)
+        __builtin_prefetch(tree->entries[part->indices[at]].key);
     return walk_next((PyObject *)walk);
 }
 
 static PyObject *walk_next(PyObject *self) {
     Walk *walk = (Walk *)self;
-    if (walk->at == walk->end) return walk_on(walk);
+    if (walk->at == walk->end)
+        return walk_on(walk);
     const Tree *tree = &((Table *)walk->view.table)->tree;
-    if (tree->version != walk->version) return walk_on(walk);
+    if (tree->version != walk->version)
+        return walk_on(walk);
     const Entry *entry = &tree->entries[walk->indices[walk->at]];
     walk->at += walk->step;
-    if (walk->view.kind == KEYS) return Py_NewRef(entry->key);
+    if (walk->view.kind == KEYS)
+        return Py_NewRef(entry->key);
     return walk->view.kind == VALUES ? Py_NewRef(entry->value) : pair_of_entry(entry);
 }
 
@@ -952,20 +1072,27 @@ static PyObject *walk_hint(PyObject *self, PyObject *Py_UNUSED(none)) {
 static PyMethodDef walk_methods[] = {{"__length_hint__", walk_hint, METH_NOARGS, NULL}, {0}};
 
 static PyType_Slot walk_slots[] = {
-    {Py_tp_dealloc, (void *)view_dealloc}, {Py_tp_traverse, (void *)view_traverse},
-    {Py_tp_iter, (void *)PyObject_SelfIter}, {Py_tp_iternext, (void *)walk_next}, {Py_tp_methods, walk_methods},
+    {Py_tp_dealloc, (void *)view_dealloc},
+    {Py_tp_traverse, (void *)view_traverse},
+    {Py_tp_iter, (void *)PyObject_SelfIter},
+    {Py_tp_iternext, (void *)walk_next},
+    {Py_tp_methods, walk_methods},
     {0},
 };
 
 static PyType_Spec walk_spec = {
-    "const_oid.sorted_map.SortedMap_iterator", sizeof(Walk), 0,
-    Py_TPFLAGS_DEFAULT | Py_TPFLAGS_HAVE_GC | Py_TPFLAGS_IMMUTABLETYPE | Py_TPFLAGS_DISALLOW_INSTANTIATION, walk_slots,
+    "const_oid.sorted_map.SortedMap_iterator",
+    sizeof(Walk),
+    0,
+    Py_TPFLAGS_DEFAULT | Py_TPFLAGS_HAVE_GC | Py_TPFLAGS_IMMUTABLETYPE | Py_TPFLAGS_DISALLOW_INSTANTIATION,
+    walk_slots,
 };
 
 static PyObject *walk_over(PyObject *self, int way) {
     PyTypeObject **type = PyType_GetModuleState(base_by(Py_TYPE(self), table_dealloc));
     Walk *walk = type && *type ? (Walk *)PyType_GenericAlloc(*type, 0) : NULL;
-    if (!walk) return NULL;
+    if (!walk)
+        return NULL;
     const Tree *tree = &((Table *)self)->tree; /* after the allocation, which may run code that changes the table */
     walk->view = (View){walk->view.ob_base, Py_NewRef(self), (unsigned char)(way % BACK)};
     walk->version = tree->version;
@@ -975,29 +1102,40 @@ static PyObject *walk_over(PyObject *self, int way) {
     return (PyObject *)walk;
 }
 
-static PyObject *table_iter(PyObject *self) { return walk_over(self, KEYS); }
+static PyObject *table_iter(PyObject *self) {
+    return walk_over(self, KEYS);
+}
 
-static PyObject *table_reversed(PyObject *self, PyObject *Py_UNUSED(none)) { return walk_over(self, BACK); }
+static PyObject *table_reversed(PyObject *self, PyObject *Py_UNUSED(none)) {
+    return walk_over(self, BACK);
+}
 
 static PyObject *view_new(PyTypeObject *type, PyObject *arguments, PyObject *Py_UNUSED(keywords)) {
     PyObject *table;
     unsigned char kind;
-    if (!PyArg_ParseTuple(arguments, "Ob", &table, &kind)) return NULL;
-    if (!base_by(Py_TYPE(table), table_dealloc)) return PyErr_Format(PyExc_TypeError, "%R is no SortedMap", table);
+    if (!PyArg_ParseTuple(arguments, "Ob", &table, &kind))
+        return NULL;
+    if (!base_by(Py_TYPE(table), table_dealloc))
+        return PyErr_Format(PyExc_TypeError, "%R is no SortedMap", table);
     View *view = (View *)PyType_GenericAlloc(type, 0);
-    if (!view) return NULL;
+    if (!view)
+        return NULL;
     view->table = Py_NewRef(table);
     view->kind = kind;
     return (PyObject *)view;
 }
 
-static PyObject *view_iter(PyObject *self) { return walk_over(((View *)self)->table, ((View *)self)->kind); }
+static PyObject *view_iter(PyObject *self) {
+    return walk_over(((View *)self)->table, ((View *)self)->kind);
+}
 
 static PyObject *view_reversed(PyObject *self, PyObject *Py_UNUSED(none)) {
     return walk_over(((View *)self)->table, ((View *)self)->kind + BACK);
 }
 
-static Py_ssize_t view_len(PyObject *self) { return table_len(((View *)self)->table); }
+static Py_ssize_t view_len(PyObject *self) {
+    return table_len(((View *)self)->table);
+}
 
 /* The names of their class, which sorted_map.py has subclasses of. */
 static const char *view_names[] = {"Keys", "Values", "Items", NULL};
@@ -1011,53 +1149,69 @@ static PyMethodDef view_methods[] = {
 static PyMemberDef view_members[] = {{"_mapping", T_OBJECT, offsetof(View, table), READONLY, NULL}, {0}};
 
 static PyType_Slot view_slots[] = {
-    {Py_tp_new, (void *)view_new}, {Py_tp_dealloc, (void *)view_dealloc}, {Py_tp_traverse, (void *)view_traverse},
-    {Py_tp_iter, (void *)view_iter}, {Py_sq_length, (void *)view_len},
-    {Py_tp_methods, view_methods}, {Py_tp_members, view_members},
+    {Py_tp_new, (void *)view_new},
+    {Py_tp_dealloc, (void *)view_dealloc},
+    {Py_tp_traverse, (void *)view_traverse},
+    {Py_tp_iter, (void *)view_iter},
+    {Py_sq_length, (void *)view_len},
+    {Py_tp_methods, view_methods},
+    {Py_tp_members, view_members},
     {0},
 };
 
 static PyType_Spec view_spec = {
-    "const_oid.sorted_map.SortedMap_view", sizeof(View), 0,
-    Py_TPFLAGS_DEFAULT | Py_TPFLAGS_BASETYPE | Py_TPFLAGS_HAVE_GC | Py_TPFLAGS_IMMUTABLETYPE, view_slots,
+    "const_oid.sorted_map.SortedMap_view",
+    sizeof(View),
+    0,
+    Py_TPFLAGS_DEFAULT | Py_TPFLAGS_BASETYPE | Py_TPFLAGS_HAVE_GC | Py_TPFLAGS_IMMUTABLETYPE,
+    view_slots,
 };
 
 /* ---- The module ---- */
 
-#define NAMED(function) (PyCFunction)(void (*)(void))function, METH_FASTCALL | METH_KEYWORDS
+#define NAMED(function) (PyCFunction)(void (*)(void)) function, METH_FASTCALL | METH_KEYWORDS
 
 static PyMethodDef table_methods[] = {
-    {"get", NAMED(table_get), "get($self, /, key, default=None)\n--\n\nThe value of a key, or else a default.\n\n"
+    {"get", NAMED(table_get),
+        "get($self, /, key, default=None)\n--\n\nThe value of a key, or else a default.\n\n"
         ">>> SortedMap().get(ObjectIdentifier(\"2.5\"), 0)\n0"},
-    {"pop", NAMED(table_pop), "pop($self, /, key, default=...)\n--\n\n"
+    {"pop", NAMED(table_pop),
+        "pop($self, /, key, default=...)\n--\n\n"
         "Removes a key and returns its value, or else a default, or raises a KeyError.\n\n"
         ">>> SortedMap().pop(ObjectIdentifier(\"2.5\"), 0)\n0"},
-    {"setdefault", NAMED(table_setdefault), "setdefault($self, /, key, default=None)\n--\n\n"
+    {"setdefault", NAMED(table_setdefault),
+        "setdefault($self, /, key, default=None)\n--\n\n"
         "The value of a key, which is set to a default if it has none.\n\n"
         ">>> SortedMap().setdefault(ObjectIdentifier(\"2.5\"), 0)\n0"},
-    {"popitem", table_popitem, METH_NOARGS, "popitem($self, /)\n--\n\n"
+    {"popitem", table_popitem, METH_NOARGS,
+        "popitem($self, /)\n--\n\n"
         "Removes the last entry and returns it, or raises a KeyError if there is none.\n\n"
         ">>> SortedMap({ObjectIdentifier(\"2.6\"): 2, ObjectIdentifier(\"2.5\"): 1}).popitem()\n"
         "(ObjectIdentifier('2.6'), 2)"},
-    {"clear", table_clear, METH_NOARGS, "clear($self, /)\n--\n\nRemoves all entries.\n\n"
+    {"clear", table_clear, METH_NOARGS,
+        "clear($self, /)\n--\n\nRemoves all entries.\n\n"
         ">>> table = SortedMap({ObjectIdentifier(\"2.5\"): \"directory\"})\n"
         ">>> table.clear(), table\n(None, SortedMap({}))"},
-    {"update", table_update, METH_VARARGS, "update($self, entries=(), /)\n--\n\n"
+    {"update", table_update, METH_VARARGS,
+        "update($self, entries=(), /)\n--\n\n"
         "Sets all entries of a mapping or an iterable, or none if a key is no identifier.\n\n"
         ">>> table = SortedMap({ObjectIdentifier(\"2.5\"): 1})\n"
         ">>> table.update({ObjectIdentifier(\"2.5\"): 2, ObjectIdentifier(\"2.4\"): 3})\n"
         ">>> table\nSortedMap({ObjectIdentifier('2.4'): 3, ObjectIdentifier('2.5'): 2})"},
-    {"nearest", NAMED(table_nearest), "nearest($self, /, oid)\n--\n\n"
+    {"nearest", NAMED(table_nearest),
+        "nearest($self, /, oid)\n--\n\n"
         "The entry whose key is the longest prefix of an identifier, or None. A slice gives the arcs after the key.\n\n"
         ">>> keys = ObjectIdentifier(\"2.5\"), ObjectIdentifier(\"2.5.4\")\n"
         ">>> names = SortedMap(zip(keys, [\"directory\", \"attributes\"]))\n"
         ">>> names.nearest(oid := ObjectIdentifier(\"2.5.4.3\"))\n(ObjectIdentifier('2.5.4'), 'attributes')\n"
         ">>> oid[len(names.nearest(oid)[0]) :]\n(3,)"},
-    {"next_after", NAMED(table_next_after), "next_after($self, /, oid)\n--\n\n"
+    {"next_after", NAMED(table_next_after),
+        "next_after($self, /, oid)\n--\n\n"
         "The first entry after an identifier, as GetNext of SNMP returns it, or None.\n\n"
         ">>> names = SortedMap({ObjectIdentifier(\"2.5.4\"): 1, ObjectIdentifier(\"2.5.10\"): 2})\n"
         ">>> names.next_after(ObjectIdentifier(\"2.5.4\"))\n(ObjectIdentifier('2.5.10'), 2)"},
-    {"subtree", NAMED(table_subtree), "subtree($self, /, oid)\n--\n\n"
+    {"subtree", NAMED(table_subtree),
+        "subtree($self, /, oid)\n--\n\n"
         "All entries whose keys begin with an identifier, which may be a key itself.\n\n"
         ">>> arcs = [(2, 5, 4), (2, 5, 4, 3), (2, 6)]\n"
         ">>> names = SortedMap(zip(map(ObjectIdentifier.from_arcs, arcs), [1, 2, 3]))\n"
@@ -1072,18 +1226,26 @@ static PyMethodDef table_methods[] = {
 
 static PyType_Slot table_slots[] = {
     {Py_tp_doc, "SortedMap(entries=())\n--\n\nEntries in the order of arcs: see SortedMap."},
-    {Py_tp_init, (void *)table_init}, {Py_tp_dealloc, (void *)table_dealloc},
-    {Py_tp_traverse, (void *)table_traverse}, {Py_tp_clear, (void *)table_clear_all},
-    {Py_tp_iter, (void *)table_iter}, {Py_sq_contains, (void *)table_contains}, {Py_mp_length, (void *)table_len},
-    {Py_mp_subscript, (void *)table_subscript}, {Py_mp_ass_subscript, (void *)table_set},
+    {Py_tp_init, (void *)table_init},
+    {Py_tp_dealloc, (void *)table_dealloc},
+    {Py_tp_traverse, (void *)table_traverse},
+    {Py_tp_clear, (void *)table_clear_all},
+    {Py_tp_iter, (void *)table_iter},
+    {Py_sq_contains, (void *)table_contains},
+    {Py_mp_length, (void *)table_len},
+    {Py_mp_subscript, (void *)table_subscript},
+    {Py_mp_ass_subscript, (void *)table_set},
     {Py_tp_methods, table_methods},
     {0},
 };
 
 /* Its module is the one that doctest looks for examples in. */
 static PyType_Spec table_spec = {
-    "const_oid.sorted_map.SortedMap", sizeof(Table), 0,
-    Py_TPFLAGS_DEFAULT | Py_TPFLAGS_BASETYPE | Py_TPFLAGS_HAVE_GC | Py_TPFLAGS_IMMUTABLETYPE, table_slots,
+    "const_oid.sorted_map.SortedMap",
+    sizeof(Table),
+    0,
+    Py_TPFLAGS_DEFAULT | Py_TPFLAGS_BASETYPE | Py_TPFLAGS_HAVE_GC | Py_TPFLAGS_IMMUTABLETYPE,
+    table_slots,
 };
 
 int add_tables(PyObject *module) {
@@ -1092,7 +1254,10 @@ int add_tables(PyObject *module) {
     OWNED *view = PyType_FromModuleAndSpec(module, &view_spec, NULL);
     PyObject **walk = PyModule_GetState(module);
     *walk = PyType_FromModuleAndSpec(module, &walk_spec, NULL);
-    if (!table || !view || !*walk || PyModule_AddObjectRef(module, "Table", table)) return -1;
-    for (const char **name = view_names; *name; name++) if (PyModule_AddObjectRef(module, *name, view)) return -1;
+    if (!table || !view || !*walk || PyModule_AddObjectRef(module, "Table", table))
+        return -1;
+    for (const char **name = view_names; *name; name++)
+        if (PyModule_AddObjectRef(module, *name, view))
+            return -1;
     return 0;
 }

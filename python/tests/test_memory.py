@@ -1,4 +1,5 @@
 """What the extension module keeps of memory, and does without it. By sanitizers, also what it reads and writes."""
+
 import copy
 import gc
 import itertools
@@ -31,14 +32,20 @@ def raised(call, *given):  # assertRaises ends Python 3.12 where there is no mem
     try:
         call(*given)
     except (OidError, ValueError, TypeError, OverflowError, RuntimeError) as error:
-        assert getattr(error, "code", None) != Code.NOT_UTF8 or "\ud800" in error.given, "the text is UTF-8"
+        assert (
+            getattr(error, "code", None) != Code.NOT_UTF8 or "\ud800" in error.given
+        ), "the text is UTF-8"
         return
     raise AssertionError("there is no error")
 
 
 Asking = type("Asking", (list,), {"__del__": lambda asking: asking[0].arcs})
 Collecting = type("Collecting", (), {"__del__": lambda _: gc.collect()})
-Other = type("Other", (dict,), {"__getattr__": lambda other, name: Other(), "__call__": lambda other, *_, **__: other})
+Other = type(
+    "Other",
+    (dict,),
+    {"__getattr__": lambda other, name: Other(), "__call__": lambda other, *_, **__: other},
+)
 
 
 def asked(oid):
@@ -59,35 +66,101 @@ def hooked(oid):
 
 # Calls with an identifier that is made anew each time.
 OF_FRESH = {
-    "text": lambda oid: (ObjectIdentifier(str(oid)), ObjectIdentifier(text=str(oid)), Under(str(oid))),
-    "wrong text": lambda oid: [raised(ObjectIdentifier, it) for it in (f"{oid}.x", f"{oid}.ü", f"{oid}.\ud800", 1)],
+    "text": lambda oid: (
+        ObjectIdentifier(str(oid)),
+        ObjectIdentifier(text=str(oid)),
+        Under(str(oid)),
+    ),
+    "wrong text": lambda oid: [
+        raised(ObjectIdentifier, it) for it in (f"{oid}.x", f"{oid}.ü", f"{oid}.\ud800", 1)
+    ],
     "identifier": lambda oid: (ObjectIdentifier(oid), Under(oid), Under(Under(oid))),
-    "octets": lambda oid: [Under.from_bytes(kind(bytes(oid))) for kind in (bytes, bytearray, memoryview)],
+    "octets": lambda oid: [
+        Under.from_bytes(kind(bytes(oid))) for kind in (bytes, bytearray, memoryview)
+    ],
     "wrong octets": lambda oid: raised(ObjectIdentifier.from_bytes, bytes(oid) + WRONG),
     "der": lambda oid: (Under.from_der(oid.der), Under.read_der(bytearray(oid.der + WRONG))),
-    "views": lambda oid: (Under.read_der(memoryview(oid.der)), oid.read_der(memoryview(oid.der[::-1])[::-1])),
+    "views": lambda oid: (
+        Under.read_der(memoryview(oid.der)),
+        oid.read_der(memoryview(oid.der[::-1])[::-1]),
+    ),
     "wrong view": lambda oid: raised(ObjectIdentifier.read_der, memoryview(oid.der[:-1])),
-    "wrong der": lambda oid: [raised(ObjectIdentifier.from_der, der) for der in (oid.der + WRONG, bytes(oid), "2")],
-    "arcs": lambda oid: (ObjectIdentifier.from_arcs(oid.arcs), Under.from_arcs(list(oid)), Under.from_arcs(oid)),
-    "wrong arcs": lambda oid: (raised(ObjectIdentifier.from_arcs, [3, *oid]), raised(oid.from_arcs, bytes(oid))),
-    "wrong arc": lambda oid: [raised(ObjectIdentifier.from_arcs, [*oid, arc]) for arc in (2**70, -2, "2")],
+    "wrong der": lambda oid: [
+        raised(ObjectIdentifier.from_der, der) for der in (oid.der + WRONG, bytes(oid), "2")
+    ],
+    "arcs": lambda oid: (
+        ObjectIdentifier.from_arcs(oid.arcs),
+        Under.from_arcs(list(oid)),
+        Under.from_arcs(oid),
+    ),
+    "wrong arcs": lambda oid: (
+        raised(ObjectIdentifier.from_arcs, [3, *oid]),
+        raised(oid.from_arcs, bytes(oid)),
+    ),
+    "wrong arc": lambda oid: [
+        raised(ObjectIdentifier.from_arcs, [*oid, arc]) for arc in (2**70, -2, "2")
+    ],
     "parent": lambda oid: (oid.parent, Under(oid).parent, OTHER.parent, ObjectIdentifier("1.2")),
     "child": lambda oid: (oid.child(2**32 - 1), Under(oid).child(4)),
-    "wrong child": lambda oid: (raised(oid.child, 2**32), raised(oid.child, -1), raised(oid.child, "1")),
-    "starts_with": lambda oid: (oid.starts_with(OTHER), oid.starts_with(oid), raised(oid.starts_with, "1.2")),
-    "text of": lambda oid: (str(oid), repr(oid), repr(Under(oid)), f"{oid:>9}", raised(format, oid, "d")),
-    "order": lambda oid: (oid < OTHER, oid == OTHER, oid != "1.2", Under(oid) >= OTHER, raised(operator.lt, oid, 1)),
-    "sequence": lambda oid: (len(oid), oid[-1], oid[1:], list(oid), oid.count(1), raised(operator.getitem, oid, "")),
-    "index": lambda oid: (oid.index(oid[2], -len(oid)), raised(oid.index, 7 * 10**9), raised(oid.index)),
-    "in and hash": lambda oid: (oid[2] in oid, int("70000") in oid, "1" in oid, {oid: 1}, hash(Under(oid))),
+    "wrong child": lambda oid: (
+        raised(oid.child, 2**32),
+        raised(oid.child, -1),
+        raised(oid.child, "1"),
+    ),
+    "starts_with": lambda oid: (
+        oid.starts_with(OTHER),
+        oid.starts_with(oid),
+        raised(oid.starts_with, "1.2"),
+    ),
+    "text of": lambda oid: (
+        str(oid),
+        repr(oid),
+        repr(Under(oid)),
+        f"{oid:>9}",
+        raised(format, oid, "d"),
+    ),
+    "order": lambda oid: (
+        oid < OTHER,
+        oid == OTHER,
+        oid != "1.2",
+        Under(oid) >= OTHER,
+        raised(operator.lt, oid, 1),
+    ),
+    "sequence": lambda oid: (
+        len(oid),
+        oid[-1],
+        oid[1:],
+        list(oid),
+        oid.count(1),
+        raised(operator.getitem, oid, ""),
+    ),
+    "index": lambda oid: (
+        oid.index(oid[2], -len(oid)),
+        raised(oid.index, 7 * 10**9),
+        raised(oid.index),
+    ),
+    "in and hash": lambda oid: (
+        oid[2] in oid,
+        int("70000") in oid,
+        "1" in oid,
+        {oid: 1},
+        hash(Under(oid)),
+    ),
     "copies": lambda oid: (copy.copy(oid), copy.deepcopy(oid)),
-    "copies of a subclass": lambda oid: (copy.copy(UNDER), copy.deepcopy(UNDER), copy.deepcopy(Under(oid))),
+    "copies of a subclass": lambda oid: (
+        copy.copy(UNDER),
+        copy.deepcopy(UNDER),
+        copy.deepcopy(Under(oid)),
+    ),
     "finalizer": asked,
     "hooks": hooked,
     "pickles": lambda oid: pickle.loads(pickle.dumps((oid, UNDER, Under(oid)))),
     "names": lambda oid: [call(oid) for call in OF_OID],
     "wrong name": lambda oid: [raised(_native.parse, f"c.{oid}.{end}") for end in ("x", "\ud800")],
-    "map": lambda oid: (SortedMap({oid: 1, OTHER: 2}).nearest(oid.child(1)), SortedMap({oid: 1}).next_after(OTHER)),
+    "map": lambda oid: (
+        SortedMap({oid: 1, OTHER: 2}).nearest(oid.child(1)),
+        SortedMap({oid: 1}).next_after(OTHER),
+    ),
 }
 CALLS = {
     f"{name}, {kind}": lambda call=call, octets=octets: call(ObjectIdentifier.from_bytes(octets))
@@ -95,19 +168,39 @@ CALLS = {
     for kind, octets in OCTETS.items()
 }
 CALLS |= {
-    "error": lambda: [str(OidError(code, detail)) for code in Code for detail in (0, 255, 256, 2**32 - 1)],
-    "wrong error": lambda: (raised(OidError, 4, 2**32), raised(OidError, 2**70, 0), raised(OidError, "4", 0)),
+    "error": lambda: [
+        str(OidError(code, detail)) for code in Code for detail in (0, 255, 256, 2**32 - 1)
+    ],
+    "wrong error": lambda: (
+        raised(OidError, 4, 2**32),
+        raised(OidError, 2**70, 0),
+        raised(OidError, "4", 0),
+    ),
 }
-OF_OID, OF_TEXT = (_native.name_of, _native.names_of, _native.display), (_native.by_name, _native.parse)
-CALLS["names"] = lambda: [call(_native.parse(text)) for call in OF_OID for text in ("2.5.4.3", "sysUpTime.0")]
-CALLS["by name"] = lambda: [call(text) for call, text in zip(2 * OF_TEXT, ("SHA256", "sysUpTime", "\ud800", "2.5"))]
+OF_OID, OF_TEXT = (_native.name_of, _native.names_of, _native.display), (
+    _native.by_name,
+    _native.parse,
+)
+CALLS["names"] = lambda: [
+    call(_native.parse(text)) for call in OF_OID for text in ("2.5.4.3", "sysUpTime.0")
+]
+CALLS["by name"] = lambda: [
+    call(text) for call, text in zip(2 * OF_TEXT, ("SHA256", "sysUpTime", "\ud800", "2.5"))
+]
 CALLS["wrong types"] = lambda: [raised(call, 1) for call in OF_OID + OF_TEXT]
 
 
 def in_a_cycle(table, *_):
     """Makes garbage of a map, a subclass of it, its iterators and views, and a key that refers to it."""
     key = Under("2.5")
-    key.table, held = table, (GIVEN, table, iter(table), reversed(table.items()), table.items(), table.values())
+    key.table, held = table, (
+        GIVEN,
+        table,
+        iter(table),
+        reversed(table.items()),
+        table.items(),
+        table.values(),
+    )
     table.update(zip([key, *KEYS], [*held, UnderMap({OTHER: table})]))
 
 
@@ -118,31 +211,70 @@ MAPS = test_tables.CALLS | {
     "in a cycle": in_a_cycle,
     "finalizer": lambda *_: SortedMap({OTHER: Collecting()}),
     "many": lambda table, *_: (table.update(MANY), [table.popitem() for _ in MANY]),
-    "wrong keys": lambda table, *_: [raised(call, "2.5") for call in (table.get, table.pop, table.nearest)],
-    "wrong entries": lambda table, *_: [raised(table.update, [(OTHER, 1), it]) for it in ((1, 2), (1,), 1)],
+    "wrong keys": lambda table, *_: [
+        raised(call, "2.5") for call in (table.get, table.pop, table.nearest)
+    ],
+    "wrong entries": lambda table, *_: [
+        raised(table.update, [(OTHER, 1), it]) for it in ((1, 2), (1,), 1)
+    ],
     "value": lambda table, key, _: table.setdefault(key(0)),
-    "missing": lambda table, key, _: (table.get(key(1)), table.get(key(1), GIVEN), table.pop(key(1), GIVEN)),
-    "none": lambda table, key, _: (table.nearest(OTHER), table.next_after(key(7)), table.subtree(OTHER)),
-    "equal": lambda table, *_: [table == kind(zip(KEYS[::2], map(tuple, 4 * [[OTHER]]))) for kind in (SortedMap, dict)],
-    "wrong views": lambda table, *_: [raised(type(table.keys()), *given) for given in ((), (1, 1), (table, -1))],
+    "missing": lambda table, key, _: (
+        table.get(key(1)),
+        table.get(key(1), GIVEN),
+        table.pop(key(1), GIVEN),
+    ),
+    "none": lambda table, key, _: (
+        table.nearest(OTHER),
+        table.next_after(key(7)),
+        table.subtree(OTHER),
+    ),
+    "equal": lambda table, *_: [
+        table == kind(zip(KEYS[::2], map(tuple, 4 * [[OTHER]]))) for kind in (SortedMap, dict)
+    ],
+    "wrong views": lambda table, *_: [
+        raised(type(table.keys()), *given) for given in ((), (1, 1), (table, -1))
+    ],
     "over": lambda table, *_: raised(next, iter(table.items()), table.clear()),
 }
 CALLS |= {
-    f"{name}, map": lambda call=call: call(SortedMap(zip(KEYS[::2], 4 * [GIVEN])), KEYS.__getitem__, NEW)
+    f"{name}, map": lambda call=call: call(
+        SortedMap(zip(KEYS[::2], 4 * [GIVEN])), KEYS.__getitem__, NEW
+    )
     for name, call in MAPS.items()
 }
 
 # What raises an exception in a function of Python, which may be lost where there is no memory.
 IN_PYTHON = ("copies of", "finalizer", "hooks", "pickles", "error", "wrong error")
-KEPT = [ObjectIdentifier, Under, OidError, UNDER, GIVEN, OTHER, bytes(OTHER), WRONG, str, tuple, const_oid]
-KEPT += [SortedMap, type(iter(SortedMap())), type(SortedMap().items()), _native.restored, *KEYS, *OCTETS.values()]
+KEPT = [
+    ObjectIdentifier,
+    Under,
+    OidError,
+    UNDER,
+    GIVEN,
+    OTHER,
+    bytes(OTHER),
+    WRONG,
+    str,
+    tuple,
+    const_oid,
+]
+KEPT += [
+    SortedMap,
+    type(iter(SortedMap())),
+    type(SortedMap().items()),
+    _native.restored,
+    *KEYS,
+    *OCTETS.values(),
+]
 KEPT += [ObjectIdentifier.__name__, Under.__name__, None, True, False, NotImplemented, b"*", b"", 1]
 HELD = 6000 * KEPT  # so that a reference given up too often frees none
 
 
 def measured():
     """Octets in use, references of all objects, which a debug build counts, and those of each that is kept."""
-    (getattr(sys, "_clear_internal_caches", None) or sys._clear_type_cache)()  # of names that pickles make anew
+    (
+        getattr(sys, "_clear_internal_caches", None) or sys._clear_type_cache
+    )()  # of names that pickles make anew
     gc.collect()
     counts = [sys.getrefcount(value) for value in KEPT]
     return tracemalloc.get_traced_memory()[0], getattr(sys, "gettotalrefcount", int)(), counts
@@ -169,7 +301,9 @@ class Memory(unittest.TestCase):
         for name, call in CALLS.items():
             with self.subTest(name):
                 # The first rounds also fill caches of Python.
-                self.assertTrue(any(keeps_nothing(call) for _ in range(50)), "it keeps memory or a reference")
+                self.assertTrue(
+                    any(keeps_nothing(call) for _ in range(50)), "it keeps memory or a reference"
+                )
 
     def test_a_class_ends_though_its_own_map_refers_to_it(self):
         for base in (SortedMap, ObjectIdentifier):
@@ -185,5 +319,9 @@ class Memory(unittest.TestCase):
         for name, call in CALLS.items():
             with self.subTest(name):
                 wanted = call(), MemoryError
-                for _, found in () if name.startswith(IN_PYTHON) else without_memory(lambda _: call(), int, tuples=0):
+                for _, found in (
+                    ()
+                    if name.startswith(IN_PYTHON)
+                    else without_memory(lambda _: call(), int, tuples=0)
+                ):
                     self.assertIn(found, wanted)

@@ -1,4 +1,5 @@
 """const_oid.names and SortedMap, beside tables of tuples."""
+
 import collections
 import concurrent.futures
 import copy
@@ -30,10 +31,16 @@ TOP = pathlib.Path(__file__).resolve().parents[2]
 sys.path.append(str(TOP / "bench/peers"))
 lists = importlib.import_module("lists")
 # What leads elsewhere in each. asn1crypto names an HMAC as its hash.
-OTHERS = {lists.openssl: "DSA Mail deltaCRL documentSeries id-alg uid", lists.openssl_list: "DSA", lists.net_snmp: "",
-          lists.mibs: "host", lists.slapd: "documentSeries", lists.cryptography: "signedCertificateTimestampList",
-          lists.jdk: "DSA Data DiffieHellman MD5withRSA PSS RSA SHA SHA1withDSA SHA1withRSA timeStamping",
-          lists.asn1crypto: "clearance data dh dsa ecdsa group rsa sha1 sha224 sha256 sha384 sha512 x509"}
+OTHERS = {
+    lists.openssl: "DSA Mail deltaCRL documentSeries id-alg uid",
+    lists.openssl_list: "DSA",
+    lists.net_snmp: "",
+    lists.mibs: "host",
+    lists.slapd: "documentSeries",
+    lists.cryptography: "signedCertificateTimestampList",
+    lists.jdk: "DSA Data DiffieHellman MD5withRSA PSS RSA SHA SHA1withDSA SHA1withRSA timeStamping",
+    lists.asn1crypto: "clearance data dh dsa ecdsa group rsa sha1 sha224 sha256 sha384 sha512 x509",
+}
 # What also does in newer releases of OpenSSL and cryptography.
 NEWER = "tcg-at-platformModel tcg-at-platformVersion DSA-SHA dsaWithSHA sha3_224 sha3_256 sha3_384 sha3_512".split()
 SEED = 3416
@@ -49,10 +56,16 @@ class Names(unittest.TestCase):
                 names_of.setdefault(oid, {})[name] = None
                 first.setdefault(name.lower(), oid)
         for oid, wanted in names_of.items():
-            self.assertEqual((tuple(wanted), next(iter(wanted))), (names.names_of(oid), names.name_of(oid)))
+            self.assertEqual(
+                (tuple(wanted), next(iter(wanted))), (names.names_of(oid), names.name_of(oid))
+            )
         for name, oid in first.items():
-            self.assertEqual([oid] * 3, [*map(names.by_name, (name, name.upper(), name.title()))], name)
-        self.assertEqual((None, ()), (names.name_of(oid := ObjectIdentifier("2.999")), names.names_of(oid)))
+            self.assertEqual(
+                [oid] * 3, [*map(names.by_name, (name, name.upper(), name.title()))], name
+            )
+        self.assertEqual(
+            (None, ()), (names.name_of(oid := ObjectIdentifier("2.999")), names.names_of(oid))
+        )
         # The Kelvin sign is a k in lower case, but no ASCII letter.
         others = "", "no name", "sha256 ", "ba\u212ae", "\ud800", "cn\0", 1000 * "cn"
         self.assertEqual({None}, {*map(names.by_name, others)})
@@ -73,7 +86,12 @@ class Names(unittest.TestCase):
                 self.assertGreater(len(ours), 20)
 
     def test_what_people_type_is_parsed_and_displayed(self):
-        for row in (TOP / "crates/oid_rows/typed_names.tsv").read_text(encoding="utf-8").rstrip("\n").split("\n"):
+        for row in (
+            (TOP / "crates/oid_rows/typed_names.tsv")
+            .read_text(encoding="utf-8")
+            .rstrip("\n")
+            .split("\n")
+        ):
             typed, wanted, shown = row.split("\t")
             for given in (typed, f"\t\r\n\f {typed} \n"):
                 if error := error_of(names.parse, given):
@@ -86,15 +104,28 @@ class Names(unittest.TestCase):
             self.assertEqual(names.by_name(name), names.parse(name))
             if (names.by_name(name), names.name_of(oid)) == (oid, name):
                 self.assertEqual(name, names.display(oid))
-            for below in (oid, oid.child(0), ObjectIdentifier.from_arcs([*oid, *draw.choices(range(2**32), k=3)])):
+            for below in (
+                oid,
+                oid.child(0),
+                ObjectIdentifier.from_arcs([*oid, *draw.choices(range(2**32), k=3)]),
+            ):
                 self.assertEqual(below, names.parse(names.display(below)))
         self.assertEqual(Code.NOT_UTF8, error_of(names.parse, "cn.\udcff").code)
-        for typed, given in {" SNMPv2-MIB::sysUpTime.x \n": "sysUpTime.x", "\tOID.1.x": "1.x", "cn\0": "cn\0"}.items():
+        for typed, given in {
+            " SNMPv2-MIB::sysUpTime.x \n": "sysUpTime.x",
+            "\tOID.1.x": "1.x",
+            "cn\0": "cn\0",
+        }.items():
             error = error_of(names.parse, typed)
-            self.assertEqual((given, given.split(".")[-1]), (error.given, error.given.split(".")[error.piece]))
+            self.assertEqual(
+                (given, given.split(".")[-1]), (error.given, error.given.split(".")[error.piece])
+            )
         self.assertIsNone(names.by_name("cn\0"))
         long = ObjectIdentifier.from_bytes(b"\x2a" + 999 * b"\x7f")
-        self.assertEqual(("member-body" + 999 * ".127", long), (names.display(long), names.parse(names.display(long))))
+        self.assertEqual(
+            ("member-body" + 999 * ".127", long),
+            (names.display(long), names.parse(names.display(long))),
+        )
 
 
 def drawn(draw):
@@ -116,8 +147,12 @@ class Model(dict):
     """What a map does, by looks at all keys."""
 
     popitem = lambda self: ((last := max(self, default=None)), self.pop(last))
-    nearest = lambda self, oid: max((item for item in self.items() if oid.starts_with(item[0])), default=None)
-    next_after = lambda self, oid: min((item for item in self.items() if item[0] > oid), default=None)
+    nearest = lambda self, oid: max(
+        (item for item in self.items() if oid.starts_with(item[0])), default=None
+    )
+    next_after = lambda self, oid: min(
+        (item for item in self.items() if item[0] > oid), default=None
+    )
     subtree = lambda self, oid: sorted(item for item in self.items() if item[0].starts_with(oid))
 
 
@@ -132,17 +167,26 @@ CHANGES = {
     "popitem": lambda table, key, new: table.popitem(),
     "clear": lambda table, key, new: table.clear(),
     "update of few": lambda table, key, new: table.update([(key(1), new()), (key(4), new())]),
-    "update of many": lambda table, key, new: table.update(zip(map(key, range(8)), iter(new, None))),
+    "update of many": lambda table, key, new: table.update(
+        zip(map(key, range(8)), iter(new, None))
+    ),
     "|=": lambda table, key, new: operator.ior(table, SortedMap([(key(5), new())])) is table,
     "setdefault": lambda table, key, new: table.setdefault(key(7), new()),
     "init": lambda table, key, new: table.__init__({key(0): new(), key(3): new()}),
 }
 LOOKUPS = "get", "__contains__", "__getitem__", "nearest", "next_after", "subtree"
-CALLS = CHANGES | {name: lambda table, key, _, name=name: getattr(table, name)(key(2)) for name in LOOKUPS}
+CALLS = CHANGES | {
+    name: lambda table, key, _, name=name: getattr(table, name)(key(2)) for name in LOOKUPS
+}
 CALLS["iter"] = lambda table, *_: len([*table])
 MET = [*itertools.product(CALLS, CHANGES), *itertools.product(CHANGES, CHANGES, [*CHANGES][::2])]
-CALLS["|"] = lambda table, key, new: [table | {key(3): new(), key(4): new()}, {key(5): new(), key(6): new()} | table]
-CALLS["update of one twice"] = lambda table, key, new: table.update(zip(map(key, (1, 1, 3, 5, 7)), iter(new, None)))
+CALLS["|"] = lambda table, key, new: [
+    table | {key(3): new(), key(4): new()},
+    {key(5): new(), key(6): new()} | table,
+]
+CALLS["update of one twice"] = lambda table, key, new: table.update(
+    zip(map(key, (1, 1, 3, 5, 7)), iter(new, None))
+)
 MOST = [name for name in CALLS if name not in ("clear", "init")]
 STEP = [int]  # what is called where a value ends
 
@@ -156,7 +200,9 @@ def shrunk(entries):
 def readings(table):
     """The entries of a map by each way to read them."""
     walk = [table.next_after(key) for key in (ObjectIdentifier("0.0"), *table)]
-    back = [*reversed(table.items())], [*zip(reversed(table.keys()), reversed(table.values()), strict=True)]
+    back = [*reversed(table.items())], [
+        *zip(reversed(table.keys()), reversed(table.values()), strict=True)
+    ]
     found = [table.nearest(key) for key in table], [(key, table[key]) for key in table.keys()]
     forth = [*table.items()], [*zip(table, table.values(), strict=True)], [*filter(None, walk)]
     return *forth, back[0][::-1], back[1][::-1], *found
@@ -171,21 +217,28 @@ class Ending(float):
 
 EndingKey = type("EndingKey", (ObjectIdentifier,), {"__del__": Ending.__del__})
 WATCHED = {"__init__": lambda made, _: weakref.finalize(made, Ending.__del__, None) and None}
-WatchedKey, WatchedValue = type("WatchedKey", (ObjectIdentifier,), WATCHED), type("WatchedValue", (float,), WATCHED)
+WatchedKey, WatchedValue = type("WatchedKey", (ObjectIdentifier,), WATCHED), type(
+    "WatchedValue", (float,), WATCHED
+)
 # What ends within a call: values, keys, and garbage, which Python 3.11 finds where it makes an object.
 ENDS = {
     "values": (KEYS.__getitem__, Ending),
     "keys": (lambda index: EndingKey(KEYS[index]), int),
     "weak references": (lambda index: WatchedKey(KEYS[index]), WatchedValue),
 }
-GARBAGE = {f"garbage {count}": (lambda key: ObjectIdentifier(str(KEYS[key])), float, count) for count in range(1, 9)}
+GARBAGE = {
+    f"garbage {count}": (lambda key: ObjectIdentifier(str(KEYS[key])), float, count)
+    for count in range(1, 9)
+}
 
 
 def plain(found):
     """A result with plain numbers, none of which ends."""
     if isinstance(found, (SortedMap, dict)):
         return plain(sorted(found.items()) if isinstance(found, dict) else [*found.items()])
-    return [*map(plain, found)] if type(found) in (tuple, list) else int(found) if isinstance(found, float) else found
+    if type(found) in (tuple, list):
+        return [*map(plain, found)]
+    return int(found) if isinstance(found, float) else found
 
 
 def result_of(call, *given):
@@ -226,7 +279,9 @@ def outcome(calls, key=KEYS.__getitem__, new=int, garbage_at=0, kind=shrunk):
             found[number] = result_of(call, table, key, lambda: new(number))
 
     STEP[0] = step
-    kept = [(number, left) for number in range(2100 if garbage_at else 0)]  # Python has no tuple that was used before
+    kept = [
+        (number, left) for number in range(2100 if garbage_at else 0)
+    ]  # Python has no tuple that was used before
     if garbage_at:
         (cycle := [Ending()]).append(cycle)
         del cycle
@@ -246,14 +301,30 @@ OwnMap = type("OwnMap", (SortedMap,), {"__setitem__": own, "__delitem__": own})
 # Calls of a map, or of a dict, of a subclass: those that make copies, and all.
 COPYING = {"copy()": lambda one: [one.copy()], "|": lambda one: [one | {}, {} | one]}
 COPYING |= {"copy": lambda one: [copy.copy(one)], "copies": lambda one: copies_of(one, range(2, 6))}
-OF_DICT = {name: lambda one, call=CALLS[name]: call(one, KEYS.__getitem__, int) for name in CALLS.keys() - LOOKUPS[3:]}
+OF_DICT = {
+    name: lambda one, call=CALLS[name]: call(one, KEYS.__getitem__, int)
+    for name in CALLS.keys() - LOOKUPS[3:]
+}
 OF_DICT |= COPYING | {call.__name__: call for call in (len, list, repr, reversed)}
-OF_DICT |= {name: lambda one, name=name: [*getattr(one, name)()] for name in ("keys", "values", "items")}
-OF_DICT |= {f"back, {name}": lambda one, name=name: [*reversed(getattr(one, name)())] for name in ("values", "items")}
-OF_DICT |= {"fromkeys": lambda one: type(one).fromkeys(KEYS), "all": lambda one: type(one).__base__(one)}
+OF_DICT |= {
+    name: lambda one, name=name: [*getattr(one, name)()] for name in ("keys", "values", "items")
+}
+OF_DICT |= {
+    f"back, {name}": lambda one, name=name: [*reversed(getattr(one, name)())]
+    for name in ("values", "items")
+}
+OF_DICT |= {
+    "fromkeys": lambda one: type(one).fromkeys(KEYS),
+    "all": lambda one: type(one).__base__(one),
+}
 OF_DICT |= {"==": lambda one: one == {KEYS[2]: 2}, "== itself": lambda one: one == one}
 # Methods that only one of both calls where a subclass has them: copies of a map have its class, state and entries.
-OWN_OF_ONE = {("__getstate__", "copy()"), ("__getstate__", "|"), ("items", "copy"), ("items", "copies")}
+OWN_OF_ONE = {
+    ("__getstate__", "copy()"),
+    ("__getstate__", "|"),
+    ("items", "copy"),
+    ("items", "copies"),
+}
 # What a subclass makes of itself for copies and pickles, with entries in other places, or without them.
 REDUCED = {
     "nothing": lambda one: (type(one), ()),
@@ -263,7 +334,14 @@ REDUCED = {
     "items of a list": lambda one: (type(one), (), None, iter([5, 6])),
     "another type": lambda one: (list, ([5],)),
     "a name": lambda one: "Kind",
-    "more than copies take": lambda one: (type(one), (), {"x": 5}, None, None, lambda made, state: None),
+    "more than copies take": lambda one: (
+        type(one),
+        (),
+        {"x": 5},
+        None,
+        None,
+        lambda made, state: None,
+    ),
     "all": lambda one: super(type(one), one).__reduce__(),
     "all, with a state": lambda one: (*super(type(one), one).__reduce__()[:2], {"x": 5}),
 }
@@ -278,10 +356,15 @@ class Sorted(unittest.TestCase):
             table = SortedMap(draw.sample([*model.items()], len(model)))
             for number in range(50):
                 near = [(key, key.parent or key) for key in draw.choices([*model] or KEYS, k=8)]
-                oids = [draw.choice([drawn(draw), key, up, up.child(201), key.child(1)]) for key, up in near]
+                oids = [
+                    draw.choice([drawn(draw), key, up, up.child(201), key.child(1)])
+                    for key, up in near
+                ]
                 call = CALLS[draw.choice([*CALLS] if number % 30 == 29 else MOST)]
                 news = (itertools.count(number).__next__ for _ in range(2))
-                found, wanted = (result_of(call, one, oids.__getitem__, next(news)) for one in (table, model))
+                found, wanted = (
+                    result_of(call, one, oids.__getitem__, next(news)) for one in (table, model)
+                )
                 self.assertEqual((wanted, sorted(model.items())), (found, [*table.items()]))
                 self.assertEqual(set(map(id, model)), set(map(id, table)))
 
@@ -292,7 +375,10 @@ class Sorted(unittest.TestCase):
             self.assertEqual([(KEYS[0], 1), (oid, dict(given)[oid])], [*SortedMap(given).items()])
         others = {oid: 2}, {oid.child(0): 1}, {"2.5": 1}, {}, {oid: 1, oid.child(0): 1}, [oid], None
         self.assertEqual(7 * [(True, True)], [(table != other, other != table) for other in others])
-        self.assertEqual([(oid, None), (oid.child(0), None)], list(SortedMap.fromkeys([oid.child(0), oid]).items()))
+        self.assertEqual(
+            [(oid, None), (oid.child(0), None)],
+            list(SortedMap.fromkeys([oid.child(0), oid]).items()),
+        )
         made = Attributes.fromkeys(iter([oid]), [1])
         self.assertEqual((Attributes, {oid: [1]}, ()), (type(made), made, made.given))
         table[oid.child(1)] = table
@@ -302,41 +388,69 @@ class Sorted(unittest.TestCase):
             shown[oid.child(1)], table[oid.child(1)] = view(shown), views()
             self.assertEqual(repr(view(shown)).replace("dict", "SortedMap"), repr(views()))
         self.assertEqual("SortedMap_iterator", type(iter(table)).__name__)
-        self.assertNotIn(SortedMap({oid: Own("2.5")}), [{KEYS[0]: Own("2.5")}, {mock.Mock(spec=oid): 1}])
+        self.assertNotIn(
+            SortedMap({oid: Own("2.5")}), [{KEYS[0]: Own("2.5")}, {mock.Mock(spec=oid): 1}]
+        )
         walk, table = iter(bare := SortedMap.__new__(SortedMap)), SortedMap.fromkeys(KEYS)
         found = [*readings(bare)], bare.clear(), [*walk], bare.update(table) or bare
         self.assertEqual(([[]] * 7, None, [], table), found)
         self.assertEqual((KEYS[::-1], None, {}), ([*reversed(table)], bare.clear(), bare))
         for kind in (dict, SortedMap):
             one, nan = kind({oid: None}), float("nan")
-            found = one.setdefault(oid, 1), kind({oid: nan}) == {oid: nan}, kind({oid: nan}) == {oid: -nan}
+            found = (
+                one.setdefault(oid, 1),
+                kind({oid: nan}) == {oid: nan},
+                kind({oid: nan}) == {oid: -nan},
+            )
             self.assertEqual((None, True, False), found)
-        given = type("Others", (dict,), {"__iter__": None, "keys": lambda _: KEYS[:2]})(dict(zip(KEYS, range(3))))
+        given = type("Others", (dict,), {"__iter__": None, "keys": lambda _: KEYS[:2]})(
+            dict(zip(KEYS, range(3)))
+        )
         self.assertEqual(dict(given), SortedMap(given))
 
     def test_views_are_as_those_of_a_dict(self):
         calls = [getattr(operator, name) for name in "and_ or_ sub xor lt le gt ge eq ne".split()]
         for name in ("keys", "values", "items"):
             table, own = (kind(zip(KEYS[:4], range(4))) for kind in (SortedMap, dict))
-            views, every = [getattr(one, name)() for one in (table, own)], getattr(dict(zip(KEYS, range(8))), name)()
+            views, every = [getattr(one, name)() for one in (table, own)], getattr(
+                dict(zip(KEYS, range(8))), name
+            )()
             self.assertIsInstance(views[0], getattr(collections.abc, f"{name.title()}View"))
             for start, end in itertools.combinations(range(7), 2) if name != "values" else ():
                 other = {*getattr(dict(zip(KEYS[start:end], range(start, end))), name)()}
-                found, wanted = ([(call(view, other), call(other, view)) for call in calls] for view in views)
+                found, wanted = (
+                    [(call(view, other), call(other, view)) for call in calls] for view in views
+                )
                 self.assertEqual(wanted, found)
                 self.assertEqual(*[view.isdisjoint(other) for view in views])
             for change in ("replace", "pop or a default", "update of many"):
                 found, wanted = ([*view] for view in views)
-                self.assertEqual((wanted, wanted[::-1], len(wanted)), (found, [*reversed(views[0])], len(views[0])))
+                self.assertEqual(
+                    (wanted, wanted[::-1], len(wanted)),
+                    (found, [*reversed(views[0])], len(views[0])),
+                )
                 self.assertEqual(*[[item in view for item in every] for view in views])
-                _ = [CHANGES[change](one, KEYS.__getitem__, itertools.count().__next__) for one in (table, own)]
+                _ = [
+                    CHANGES[change](one, KEYS.__getitem__, itertools.count().__next__)
+                    for one in (table, own)
+                ]
             for given in ((), (table,), (own, 0), (table, -1), (table, "0"), (table, 256)):
                 self.assertIn(type(error_of(type(views[0]), *given)), (TypeError, OverflowError))
 
     def test_maps_are_equal_where_dicts_are(self):
         """All is read before values are compared: each with that of the same key, in the order of keys, by is or ==."""
-        nan, asked, others = float("nan"), [], [dict, SortedMap, OwnMap, lambda _: types.MappingProxyType(dict(_))]
-        values = (nan, nan, True), (nan, float("nan"), False), (999, int("999"), True), (1, 2, False), ([1], [1], True)
+        nan, asked, others = (
+            float("nan"),
+            [],
+            [dict, SortedMap, OwnMap, lambda _: types.MappingProxyType(dict(_))],
+        )
+        values = (
+            (nan, nan, True),
+            (nan, float("nan"), False),
+            (999, int("999"), True),
+            (1, 2, False),
+            ([1], [1], True),
+        )
 
         class Value:
             def __init__(self, number, is_equal=True):
@@ -351,19 +465,32 @@ class Sorted(unittest.TestCase):
         for kind in others:
             for value, other, wanted in values:
                 pair = SortedMap(zip(KEYS, [0, value, 2])), kind([*zip(KEYS, [0, other, 2])][::-1])
-                self.assertEqual((wanted, wanted), (pair[0] == pair[1], not pair[1] != pair[0]), (kind, value))
+                self.assertEqual(
+                    (wanted, wanted), (pair[0] == pair[1], not pair[1] != pair[0]), (kind, value)
+                )
             for keys in (KEYS[1:4], KEYS[:4]):
-                self.assertIs(False, SortedMap.fromkeys(KEYS[:3]) == kind(dict.fromkeys(keys).items()))
+                self.assertIs(
+                    False, SortedMap.fromkeys(KEYS[:3]) == kind(dict.fromkeys(keys).items())
+                )
             for unequal, count in ((None, 8), (5, 6)):
-                pair = [make((key, Value(index, index != unequal)) for index, key in entries)
-                        for make, entries in ((SortedMap, [*enumerate(KEYS)]), (kind, [*enumerate(KEYS)][::-1]))]
+                pair = [
+                    make((key, Value(index, index != unequal)) for index, key in entries)
+                    for make, entries in (
+                        (SortedMap, [*enumerate(KEYS)]),
+                        (kind, [*enumerate(KEYS)][::-1]),
+                    )
+                ]
                 asked.clear()
                 self.assertEqual(unequal is None, pair[0] == pair[1])
                 self.assertEqual([(index, index) for index in range(count)], asked)
-        apart = type("Apart", (ObjectIdentifier,), {"__eq__": operator.is_, "__hash__": object.__hash__})
+        apart = type(
+            "Apart", (ObjectIdentifier,), {"__eq__": operator.is_, "__hash__": object.__hash__}
+        )
         keys = apart("2.5"), apart("2.5")
         table = SortedMap({keys[0]: 1, KEYS[0]: 1})
-        self.assertEqual([False] * 2, [table == kind.fromkeys(keys, 1) for kind in (dict, SortedMap)])
+        self.assertEqual(
+            [False] * 2, [table == kind.fromkeys(keys, 1) for kind in (dict, SortedMap)]
+        )
 
     def test_copies_are_apart(self):
         """A map is no part of what it was made from, nor of its copies, which have the attributes of a subclass."""
@@ -372,11 +499,18 @@ class Sorted(unittest.TestCase):
         table = Attributes(source)
         table.name, table.slot, table._keys, table._values = "name", [2], 3, 4
         with mock.patch.object(Attributes, "__init__", own):
-            shared, apart = [table.copy(), copy.copy(table), table | {}, {} | table], copies_of(table, range(2, 6))
+            shared, apart = [table.copy(), copy.copy(table), table | {}, {} | table], copies_of(
+                table, range(2, 6)
+            )
         for made in shared + apart:
-            self.assertEqual((Attributes, "name", 9), (type(made), made.name, made.slot[0] + made._keys + made._values))
+            self.assertEqual(
+                (Attributes, "name", 9),
+                (type(made), made.name, made.slot[0] + made._keys + made._values),
+            )
         for made in [*shared, SortedMap(table), *apart]:
-            self.assertEqual(({one: [1]}, any(made is other for other in apart)), (made, made[one] is not values))
+            self.assertEqual(
+                ({one: [1]}, any(made is other for other in apart)), (made, made[one] is not values)
+            )
             made[other] = 3
             del made[one]
             self.assertEqual(([one], {one: [1]}, {one: [1]}), (list(table), table, source))
@@ -384,9 +518,18 @@ class Sorted(unittest.TestCase):
         self.assertIs((again := copy.deepcopy(table)), again.name)
         self.assertEqual(({one: [1]}, [one, other], None), (source, list(table), table.clear()))
         self.assertEqual((table, {}), (table.name, table))
-        ways = [{}, {"__getstate__": lambda _: {"x": 5}, "__setstate__": lambda table, x: vars(table).update(x)}]
+        ways = [
+            {},
+            {
+                "__getstate__": lambda _: {"x": 5},
+                "__setstate__": lambda table, x: vars(table).update(x),
+            },
+        ]
         new = {"__new__": lambda kind, given: object.__new__(kind)}
-        ways += [{"__getstate__": lambda table: (vars(table), None)}, {**new, "__getnewargs__": lambda _: (1,)}]
+        ways += [
+            {"__getstate__": lambda table: (vars(table), None)},
+            {**new, "__getnewargs__": lambda _: (1,)},
+        ]
         for way in (*ways, {**new, "__getnewargs_ex__": lambda _: ((), {"given": 1})}):
             vars(table := type("Kind", (SortedMap,), {"__setattr__": None, **way})(source))["x"] = 5
             made = table.copy(), copy.copy(table), table | {}, copy.deepcopy(table)
@@ -400,14 +543,21 @@ class Sorted(unittest.TestCase):
 
     def test_copies_are_as_a_subclass_of_dict_makes_them(self):
         """By its own __reduce__ or a reductor of copyreg, which may leave entries out. All are in copy() and |."""
-        for way, (name, reduce) in itertools.product(("__reduce__", "__reduce_ex__", "copyreg"), REDUCED.items()):
+        for way, (name, reduce) in itertools.product(
+            ("__reduce__", "__reduce_ex__", "copyreg"), REDUCED.items()
+        ):
             found = []
             for base in (dict, SortedMap):
                 counts = itertools.count()
-                methods = {"extend": lambda one, items: setattr(one, "x", items), way: lambda one, *_: reduce(one)}
+                methods = {
+                    "extend": lambda one, items: setattr(one, "x", items),
+                    way: lambda one, *_: reduce(one),
+                }
                 methods["__new__"] = lambda kind, *_: (next(counts), base.__new__(kind))[1]
                 kind = type("Kind", (base,), {"__module__": __name__, **methods})
-                reductors = mock.patch.dict(copyreg.dispatch_table, {kind: reduce} if way == "copyreg" else {})
+                reductors = mock.patch.dict(
+                    copyreg.dispatch_table, {kind: reduce} if way == "copyreg" else {}
+                )
                 with reductors, mock.patch.dict(globals(), Kind=kind):
                     for call in COPYING.values():
                         one, made = kind({KEYS[2]: 2}), []
@@ -418,7 +568,11 @@ class Sorted(unittest.TestCase):
 
     def test_methods_are_called_as_those_of_a_subclass_of_dict(self):
         """Of those that a subclass has of its own. Names that dict does not have are free."""
-        names = {name for kind in (dict, SortedMap) for name, _ in inspect.getmembers(kind, inspect.isroutine)}
+        names = {
+            name
+            for kind in (dict, SortedMap)
+            for name, _ in inspect.getmembers(kind, inspect.isroutine)
+        }
         differ = set()
         for name in names - {"__getattribute__", "__subclasshook__"} | {"_flat", "_walk"}:
             errors = []
@@ -427,16 +581,32 @@ class Sorted(unittest.TestCase):
                 given = [kind({KEYS[2]: 2}) for _ in OF_DICT]
                 setattr(kind, name, own)
                 with mock.patch.dict(globals(), Kind=kind):
-                    errors.append([type(error_of(*called)) for called in zip(OF_DICT.values(), given)])
-            differ |= {(name, call) for call, one, other in zip(OF_DICT, *errors) if one is not other}
+                    errors.append(
+                        [type(error_of(*called)) for called in zip(OF_DICT.values(), given)]
+                    )
+            differ |= {
+                (name, call) for call, one, other in zip(OF_DICT, *errors) if one is not other
+            }
         self.assertEqual(OWN_OF_ONE, differ)
 
     def test_a_change_ends_an_iteration(self):
         """Keys that come or go are an error at each next step, also after the last key. Other values are none."""
-        again = {"again": lambda table, key, new: operator.setitem(table, key(4), table.pop(key(4)))}
-        again["all"] = lambda table, key, new: (table.clear(), table.update(zip(map(key, range(0, 8, 2)), "abcd")))
-        orders = iter, reversed, lambda table: iter(table.items()), lambda table: reversed(table.values())
-        for (name, change), order, count in itertools.product((CHANGES | again).items(), orders, range(6)):
+        again = {
+            "again": lambda table, key, new: operator.setitem(table, key(4), table.pop(key(4)))
+        }
+        again["all"] = lambda table, key, new: (
+            table.clear(),
+            table.update(zip(map(key, range(0, 8, 2)), "abcd")),
+        )
+        orders = (
+            iter,
+            reversed,
+            lambda table: iter(table.items()),
+            lambda table: reversed(table.values()),
+        )
+        for (name, change), order, count in itertools.product(
+            (CHANGES | again).items(), orders, range(6)
+        ):
             table = shrunk(zip(KEYS[::2], 4 * [None]))
             entries, before = order(table), list(table)
             self.assertEqual([*order(table)][:count], [*itertools.islice(entries, count)])
@@ -444,9 +614,15 @@ class Sorted(unittest.TestCase):
             result_of(change, table, KEYS.__getitem__, int)
             if count < 5 and (list(table) != before or name in again):
                 errors = {repr(error_of(next, entries)) for _ in range(2)}
-                self.assertEqual({"RuntimeError('SortedMap changed during iteration')"}, errors, (name, order, count))
+                self.assertEqual(
+                    {"RuntimeError('SortedMap changed during iteration')"},
+                    errors,
+                    (name, order, count),
+                )
             else:
-                self.assertEqual([*order(table)][count:] if count < 5 else [], [*entries], (name, order, count))
+                self.assertEqual(
+                    [*order(table)][count:] if count < 5 else [], [*entries], (name, order, count)
+                )
         entries, _ = iter(bare := SortedMap.__new__(SortedMap)), bare.update({KEYS[0]: 1})
         self.assertIsInstance(error_of(next, entries), RuntimeError)
 
@@ -459,27 +635,44 @@ class Sorted(unittest.TestCase):
         gc.collect()  # which frees what other tests left
         starts = (0, 0, True), *itertools.product([4], (0, 508), (False, True))
         for call, (few, full, are_all) in itertools.product(CALLS.values(), starts):
-            start = [*zip(KEYS[::2], range(few)), *((KEYS[2].child(300 + index), 0) for index in range(1, full))]
+            start = [
+                *zip(KEYS[::2], range(few)),
+                *((KEYS[2].child(300 + index), 0) for index in range(1, full)),
+            ]
             start.sort()
             result_of(call, after := SortedMap(start), *given)
             after = [*after.items()]
             counts = [*map(sys.getrefcount, kept)]
-            for table, found in without_memory(lambda table: call(table, *given), lambda: shrunk(start), are_all):
+            for table, found in without_memory(
+                lambda table: call(table, *given), lambda: shrunk(start), are_all
+            ):
                 wanted = start if found in (MemoryError, SystemError) else after
-                self.assertEqual((len(wanted), wanted, False), (len(table), [*table.items()], other in table), call)
-                self.assertEqual(not wanted, sys.getsizeof(table) == sys.getsizeof(SortedMap()), call)
+                self.assertEqual(
+                    (len(wanted), wanted, False),
+                    (len(table), [*table.items()], other in table),
+                    call,
+                )
+                self.assertEqual(
+                    not wanted, sys.getsizeof(table) == sys.getsizeof(SortedMap()), call
+                )
             table = found = wanted = None
             self.assertEqual(counts, [*map(sys.getrefcount, kept)], call)
         entries = dict.fromkeys(KEYS), 2 * [*zip(KEYS, KEYS)]
         for number in range(40):
-            _ = [*without_memory(lambda given: (SortedMap(given[0]), SortedMap(given[1])), lambda: entries)]
+            _ = [
+                *without_memory(
+                    lambda given: (SortedMap(given[0]), SortedMap(given[1])), lambda: entries
+                )
+            ]
             before = sys.getallocatedblocks() if number < 10 else before
         self.assertLess(sys.getallocatedblocks(), before + 15)
 
     def test_changes_meet_each_other(self):
         """What ends within a change makes another, and that a third. Each is as if one came after another."""
         errors = []
-        self.enterContext(mock.patch.object(sys, "unraisablehook", lambda given: errors.append(given.exc_value)))
+        self.enterContext(
+            mock.patch.object(sys, "unraisablehook", lambda given: errors.append(given.exc_value))
+        )
         self.addCleanup(gc.set_threshold, *gc.get_threshold())
         for called in MET:
             calls = [*enumerate(map(CALLS.get, called))]
@@ -488,18 +681,28 @@ class Sorted(unittest.TestCase):
                 self.assertIn(outcome(calls, *ends), wanted, (called, kind))
         for ends in GARBAGE.values():  # which takes a wrong key out of its dict
             given = {type("Key", (), {})(): 1}
-            calls = (0, lambda table, *_: repr(error_of(table.update, given))), (1, lambda *_: given.clear())
+            calls = (0, lambda table, *_: repr(error_of(table.update, given))), (
+                1,
+                lambda *_: given.clear(),
+            )
             self.assertIn(outcome(calls, *ends)[0][0][:9], ("TypeError", "None"))
         self.assertEqual([], errors)
 
     def test_a_reading_is_of_one_moment(self):
         """It runs no code of Python once it has begun: functions change the map where they are called and return."""
         reads = [dict, SortedMap.fromkeys, repr, copy.copy, SortedMap.copy]
-        reads += [lambda table: mock.MagicMock() in table.values(), lambda table: [*table.__reduce_ex__(4)[4]]]
+        reads += [
+            lambda table: mock.MagicMock() in table.values(),
+            lambda table: [*table.__reduce_ex__(4)[4]],
+        ]
         reads += [lambda table: {**table}, lambda table: [*table.items()]]
-        for kind, read in itertools.product((SortedMap, Attributes), [*reads, SortedMap(zip(KEYS, KEYS)).__eq__]):
+        for kind, read in itertools.product(
+            (SortedMap, Attributes), [*reads, SortedMap(zip(KEYS, KEYS)).__eq__]
+        ):
             table, key = kind(zip(KEYS, KEYS)), ObjectIdentifier("2.9")
-            sys.setprofile(lambda *_: (SortedMap.update(table, {key: 1}), SortedMap.pop(table, key)))
+            sys.setprofile(
+                lambda *_: (SortedMap.update(table, {key: 1}), SortedMap.pop(table, key))
+            )
             found = error_of(read, table)
             sys.setprofile(None)
             self.assertIs(found, None, read)
@@ -514,11 +717,25 @@ class Sorted(unittest.TestCase):
             for arc in arcs:
                 key = ObjectIdentifier(f"2.{own}.{arc}")
                 table.update({key: arc, key.child(1): own, key.child(0): arc})
-                found = table.nearest(key.child(2)), table.next_after(key), table.pop(key), table.pop(key.child(0))
+                found = (
+                    table.nearest(key.child(2)),
+                    table.next_after(key),
+                    table.pop(key),
+                    table.pop(key.child(0)),
+                )
                 self.assertEqual(((key, arc), (key.child(0), arc), arc, arc), found)
                 last = 2**32 - 1 - arc
-                found = str(key), key.child(last).arcs, str(key.parent), hash(key), OidError(1, arc).args
-                self.assertEqual((f"2.{own}.{arc}", (2, own, arc, last), f"2.{own}", hash(bytes(key)), (1, arc)), found)
+                found = (
+                    str(key),
+                    key.child(last).arcs,
+                    str(key.parent),
+                    hash(key),
+                    OidError(1, arc).args,
+                )
+                self.assertEqual(
+                    (f"2.{own}.{arc}", (2, own, arc, last), f"2.{own}", hash(bytes(key)), (1, arc)),
+                    found,
+                )
                 wanted[key.child(1)] = own
                 keys = list(table) if arc % 50 == 0 else []
                 self.assertEqual(sorted(keys), keys)
@@ -532,21 +749,31 @@ class Sorted(unittest.TestCase):
             results = threads.map(work, range(3), 3 * [range(500)])
             while next(signals) < 100:
                 work(3, range(50))
-            self.assertEqual((1e-3, [None] * 3), (signal.setitimer(signal.ITIMER_REAL, 0)[1], [*results]))
+            self.assertEqual(
+                (1e-3, [None] * 3), (signal.setitimer(signal.ITIMER_REAL, 0)[1], [*results])
+            )
         self.assertEqual(sorted(wanted.items()), [*table.items()])
 
     def test_no_method_of_a_key_is_called(self):
         """Keys are compared by their octets, also those of pairs, of another mapping, of copies and pickles."""
         keys = [Own(str(key)) for key in KEYS]
-        others = type("Others", (), {"keys": lambda _: iter(keys), "__getitem__": lambda _, key: key.arcs})()
+        others = type(
+            "Others", (), {"keys": lambda _: iter(keys), "__getitem__": lambda _, key: key.arcs}
+        )()
         table = SortedMap(zip(keys, range(8)))
         own.side_effect = lambda *_: 0
         given = dict(table.items())
         own.side_effect = AssertionError
-        made = [*map(SortedMap, (others, given, table, [*table.items()])), SortedMap.fromkeys(keys), table | {}]
+        made = [
+            *map(SortedMap, (others, given, table, [*table.items()])),
+            SortedMap.fromkeys(keys),
+            table | {},
+        ]
         for one in (table, *made, {} | table, table.copy(), copy.copy(table), *copies_of(table)):
             self.assertEqual([*map(str, KEYS)], [*map(str, one)])
-        self.assertTrue(table == SortedMap(zip(map(Own, map(str, KEYS)), range(8))) != SortedMap(others))
+        self.assertTrue(
+            table == SortedMap(zip(map(Own, map(str, KEYS)), range(8))) != SortedMap(others)
+        )
         self.assertIs(AssertionError, type(error_of(OwnMap.fromkeys, KEYS)))  # as dict does
         for name, call in CALLS.items():
             calls = [(0, call)]
@@ -558,14 +785,35 @@ class Sorted(unittest.TestCase):
 
     def test_errors_of_others_pass_through(self):
         """Nothing is changed then. What is given may change the map, or itself, while it is read."""
-        fail, of = mock.Mock(side_effect=KeyError("of others")), lambda **calls: type("Others", (), calls)()
-        others = [of(keys=fail), of(keys=lambda _: KEYS, __getitem__=fail), of(keys=lambda _: map(fail, KEYS))]
+        fail, of = (
+            mock.Mock(side_effect=KeyError("of others")),
+            lambda **calls: type("Others", (), calls)(),
+        )
+        others = [
+            of(keys=fail),
+            of(keys=lambda _: KEYS, __getitem__=fail),
+            of(keys=lambda _: map(fail, KEYS)),
+        ]
         others += [of(keys=property(fail)), of(__iter__=fail)]
         others.append(of(__iter__=lambda _: itertools.chain([(KEYS[1], 1)], map(fail, KEYS))))
         for change in (SortedMap.update, operator.ior, SortedMap.__init__):
             table, pairs = SortedMap.fromkeys(KEYS[::2], 0), []
-            for given in (*others, 5, None, [1], "ab", [(KEYS[1], 1), (KEYS[3],)], [(KEYS[1], 2, 3)], [KEYS[3], 1]):
-                self.assertEqual(*[type(error_of(call, given)) for call in (dict, lambda given: change(table, given))])
+            for given in (
+                *others,
+                5,
+                None,
+                [1],
+                "ab",
+                [(KEYS[1], 1), (KEYS[3],)],
+                [(KEYS[1], 2, 3)],
+                [KEYS[3], 1],
+            ):
+                self.assertEqual(
+                    *[
+                        type(error_of(call, given))
+                        for call in (dict, lambda given: change(table, given))
+                    ]
+                )
             change(table, table)
             self.assertEqual([(key, 0) for key in KEYS[::2]], [*table.items()])
             clearing = of(__iter__=lambda _: (pairs.clear(), table.clear(), iter([KEYS[3], 3]))[2])
@@ -576,16 +824,25 @@ class Sorted(unittest.TestCase):
     def test_calls_have_signatures_and_keywords(self):
         named = {"fromkeys": "keys value", "update": "entries", "popitem": "", "clear": ""}
         named |= dict.fromkeys(("nearest", "next_after", "subtree"), "oid")
-        for name, words in (named | dict.fromkeys(("get", "pop", "setdefault"), "key default")).items():
+        for name, words in (
+            named | dict.fromkeys(("get", "pop", "setdefault"), "key default")
+        ).items():
             table = SortedMap.fromkeys(KEYS[:2], 0)
             given = dict(zip(words.split(), (KEYS[:2] if name == "fromkeys" else KEYS[1], 0)))
-            self.assertEqual([*given], [*inspect.signature(call := getattr(table, name)).parameters])
+            self.assertEqual(
+                [*given], [*inspect.signature(call := getattr(table, name)).parameters]
+            )
             errors = error_of(lambda: call(**given, other=1)), error_of(call, *given.values(), 1)
             self.assertEqual([TypeError] * 2, [*map(type, errors)])
-            self.assertEqual(f"SortedMap.{name}", getattr(SortedMap, name).__qualname__)  # in errors
+            self.assertEqual(
+                f"SortedMap.{name}", getattr(SortedMap, name).__qualname__
+            )  # in errors
             if name != "update":
                 self.assertEqual(getattr(table.copy(), name)(*given.values()), call(**given))
-        self.assertEqual((["entries"], table), ([*inspect.signature(SortedMap).parameters], SortedMap(entries=table)))
+        self.assertEqual(
+            (["entries"], table),
+            ([*inspect.signature(SortedMap).parameters], SortedMap(entries=table)),
+        )
 
     def test_keys_of_one_hash_are_apart(self):
         """A map keeps 32 bits of a hash, which two of a million keys have in common."""
@@ -594,26 +851,43 @@ class Sorted(unittest.TestCase):
             if (other := seen.setdefault(hash(oid) % 2**32, oid)) is not oid:
                 break
         table = SortedMap({oid: 1, other: 2, KEYS[0]: 3})
-        self.assertEqual((1, 2, None, 1), (table[oid], table.pop(other), table.get(other), table.pop(oid)))
+        self.assertEqual(
+            (1, 2, None, 1), (table[oid], table.pop(other), table.get(other), table.pop(oid))
+        )
 
     def test_wrong_octets_stay_within_their_memory(self):
         """They are of identifiers that are changed in place, which a map orders somewhere. Sanitizers see the rest."""
         for octets in (b"", 300 * b"\x81", 150 * b"\x81\1", 15 * b"\1" + 300 * b"\xff"):
             wrong, table = ObjectIdentifier.from_bytes(bytes(315)), SortedMap(zip(KEYS, KEYS))
             ctypes.memmove(id(bytes(wrong)) + bytes.__basicsize__ - 1, octets, len(octets))
-            ctypes.c_size_t.from_address(id(wrong) + object.__basicsize__ * 3 // 2).value = len(octets)
+            ctypes.c_size_t.from_address(id(wrong) + object.__basicsize__ * 3 // 2).value = len(
+                octets
+            )
             table[wrong] = 1
-            found = table.nearest(wrong), table.next_after(wrong), table.subtree(wrong), table.pop(wrong)
+            found = (
+                table.nearest(wrong),
+                table.next_after(wrong),
+                table.subtree(wrong),
+                table.pop(wrong),
+            )
             self.assertEqual((1, KEYS), (found[3], [*table]))
 
 
 class Costs(unittest.TestCase):
     def test_its_size_is_that_of_its_memory(self):
         keys = [ObjectIdentifier(f"2.{arc}") for arc in range(3000)]
-        orders = (51.5, keys), (52, keys[::-1]), (52, random.Random(SEED).sample(keys, 3000))  # the most octets a key
+        orders = (
+            (51.5, keys),
+            (52, keys[::-1]),
+            (52, random.Random(SEED).sample(keys, 3000)),
+        )  # the most octets a key
         tracemalloc.start()
         self.addCleanup(tracemalloc.stop)
-        kept = (3000, 3000), (300, 450), (0, 0)  # how many keys are left, and for how many there is memory
+        kept = (
+            (3000, 3000),
+            (300, 450),
+            (0, 0),
+        )  # how many keys are left, and for how many there is memory
         for (most, order), (left, held), at_once in itertools.product(orders, kept, (0, 3000)):
             before, table = tracemalloc.get_traced_memory()[0], SortedMap()
             table.update((key, None) for key in order[:at_once])
@@ -627,7 +901,11 @@ class Costs(unittest.TestCase):
             del table
 
     def test_an_empty_map_has_no_memory(self):
-        ways = {"pop": SortedMap.pop, "del": operator.delitem, "popitem": lambda table, _: table.popitem()}
+        ways = {
+            "pop": SortedMap.pop,
+            "del": operator.delitem,
+            "popitem": lambda table, _: table.popitem(),
+        }
         for count, (name, way) in itertools.product((1, 2, 7, 100), ways.items()):
             table = SortedMap((KEYS[0].child(arc), arc) for arc in range(count))
             for key in [*table]:
@@ -637,7 +915,9 @@ class Costs(unittest.TestCase):
 
     def test_a_long_identifier_is_found_in_linear_time(self):
         """The search for a prefix makes not all prefixes of what it is given, nor of what that shares with a key."""
-        oid, long = ObjectIdentifier.from_bytes(bytes(500_000)), ObjectIdentifier.from_bytes(bytes(499_999))
+        oid, long = ObjectIdentifier.from_bytes(bytes(500_000)), ObjectIdentifier.from_bytes(
+            bytes(499_999)
+        )
         table = SortedMap({ObjectIdentifier("0.0.0"): 1, ObjectIdentifier("0.0.1"): 2})
         for given in (oid, long.child(1)):
             self.assertLess(seconds(lambda: self.assertEqual(1, table.nearest(given)[1])), 1)
@@ -661,31 +941,58 @@ class Costs(unittest.TestCase):
         calls = [(ups[:1], lambda: [up.parent in table for up in ups[:-1]])]
         calls.append(([*table], lambda: [*map(table.next_after, table)]))
         for keys, lookups in calls:
-            rounds = (2 * seconds(lambda: [*map(table.nearest, keys)]) < seconds(lookups) for _ in range(5))
+            rounds = (
+                2 * seconds(lambda: [*map(table.nearest, keys)]) < seconds(lookups)
+                for _ in range(5)
+            )
             self.assertTrue(any(rounds))
 
     def test_views_and_equality_take_less_time_than_in_python(self):
         keys = [KEYS[0].child(arc * 7919 % 1000) for arc in range(1000)]
         table, others = SortedMap.fromkeys(keys), [SortedMap.fromkeys(keys), dict.fromkeys(keys)]
         view = collections.abc.KeysView
-        views = lambda: [iter(table.keys()) for _ in keys], lambda: [iter(view(table)) for _ in keys]
-        calls = [views, *((lambda other=other: table == other, lambda: [*map(table.get, keys)]) for other in others)]
+        views = lambda: [iter(table.keys()) for _ in keys], lambda: [
+            iter(view(table)) for _ in keys
+        ]
+        calls = [
+            views,
+            *(
+                (lambda other=other: table == other, lambda: [*map(table.get, keys)])
+                for other in others
+            ),
+        ]
         for call, longer in calls:
             self.assertTrue(any(seconds(call) < seconds(longer) for _ in range(20)))
 
     def test_all_entries_take_about_the_time_of_making_the_map(self):
         draw = random.Random(SEED)
-        entries = {ObjectIdentifier(f"1.3.6.1.2.1.{draw.getrandbits(32)}.{arc}"): arc for arc in range(50_000)}
+        entries = {
+            ObjectIdentifier(f"1.3.6.1.2.1.{draw.getrandbits(32)}.{arc}"): arc
+            for arc in range(50_000)
+        }
         calls = {
             "update": (3, lambda table: SortedMap().update(entries)),
-            "small updates": (1, lambda table: [table.update({key.child(0): 1}) for key in list(entries)[:1000]]),
+            "small updates": (
+                1,
+                lambda table: [table.update({key.child(0): 1}) for key in list(entries)[:1000]],
+            ),
             "clear": (1, lambda table: table.clear()),
             "|": (3, lambda table: table | {ObjectIdentifier("2.5"): 1}),
             "subtree": (3, lambda table: table.subtree(ObjectIdentifier("1.3"))),
-            "back": (6, lambda table: (keys := [*table], table.clear(), [*map(table.setdefault, keys[::-1])])),
+            "back": (
+                6,
+                lambda table: (
+                    keys := [*table],
+                    table.clear(),
+                    [*map(table.setdefault, keys[::-1])],
+                ),
+            ),
             "popitem": (1, lambda table: [table.popitem() for _ in range(100)]),
             "next_after": (9, lambda table: [table.next_after(key) for key in entries]),
         }
         for name, (limit, call) in calls.items():
-            rounds = (seconds(call, SortedMap(entries)) / seconds(SortedMap, entries) < limit for _ in range(5))
+            rounds = (
+                seconds(call, SortedMap(entries)) / seconds(SortedMap, entries) < limit
+                for _ in range(5)
+            )
             self.assertTrue(any(rounds), name)

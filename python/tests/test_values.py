@@ -1,4 +1,5 @@
 """ObjectIdentifier and OidError as values of Python: their inputs, copies, pickles and interpreters."""
+
 import array
 import collections
 import concurrent.futures
@@ -25,7 +26,11 @@ from unittest import mock
 import const_oid
 from const_oid import Code, ObjectIdentifier, OidError, SortedMap, _native, names
 
-from_bytes, from_der, from_arcs = ObjectIdentifier.from_bytes, ObjectIdentifier.from_der, ObjectIdentifier.from_arcs
+from_bytes, from_der, from_arcs = (
+    ObjectIdentifier.from_bytes,
+    ObjectIdentifier.from_der,
+    ObjectIdentifier.from_arcs,
+)
 OID = ObjectIdentifier("1.2.840.10045.2.1")
 OCTETS = bytes.fromhex("2A8648CE3D0201")
 LONG = from_bytes(bytes([42] + [3] * 299))
@@ -35,28 +40,86 @@ COMPARISONS = operator.eq, operator.ne, operator.lt, operator.le, operator.gt, o
 
 # Errors: the call, the code and what it says; for each input the detail, and the index of the wrong component.
 WRONG = [
-    *((call, 5, "OID value is empty", {given: (0, piece)}) for call, given, piece in (
-        (ObjectIdentifier, "", 0), (from_bytes, b"", None), (from_der, b"\6\0", None), (from_arcs, (), None))),
+    *(
+        (call, 5, "OID value is empty", {given: (0, piece)})
+        for call, given, piece in (
+            (ObjectIdentifier, "", 0),
+            (from_bytes, b"", None),
+            (from_der, b"\6\0", None),
+            (from_arcs, (), None),
+        )
+    ),
     (ObjectIdentifier, 5, "an identifier has two arcs or more", {"1": (0, 0)}),
     (ObjectIdentifier, 1, "OID contains out-of-range arc: 40", {"1.40.x": (40, 1)}),
-    (ObjectIdentifier, 9, "OID ends with invalid trailing '.'", {"1.": (0, 0), "3.": (0, 0), "1.2.": (0, 1)}),
-    *((ObjectIdentifier, 4, f"expected digit, got {shown}", {given: (byte, piece)}) for shown, given, byte, piece in (
-        ("'.'", ".", 46, 0), ("'.'", "..", 46, 0), ("'.' (remove the first dot)", ".1.3.6", 46, 0),
-        ("'x' (names.parse takes names)", "x.2", 120, 0), ("'x'", "1.2.3x.y", 120, 2), (r"'\x00'", "1.2\0.3", 0, 1),
-        ("'ü'", "1.2.ü٣", 0xC3, 2), (r"'\u2028'", "1.2.\u2028", 0xE2, 2), ("'😀'", "1.2.😀.x", 0xF0, 2))),
+    (
+        ObjectIdentifier,
+        9,
+        "OID ends with invalid trailing '.'",
+        {"1.": (0, 0), "3.": (0, 0), "1.2.": (0, 1)},
+    ),
+    *(
+        (ObjectIdentifier, 4, f"expected digit, got {shown}", {given: (byte, piece)})
+        for shown, given, byte, piece in (
+            ("'.'", ".", 46, 0),
+            ("'.'", "..", 46, 0),
+            ("'.' (remove the first dot)", ".1.3.6", 46, 0),
+            ("'x' (names.parse takes names)", "x.2", 120, 0),
+            ("'x'", "1.2.3x.y", 120, 2),
+            (r"'\x00'", "1.2\0.3", 0, 1),
+            ("'ü'", "1.2.ü٣", 0xC3, 2),
+            (r"'\u2028'", "1.2.\u2028", 0xE2, 2),
+            ("'😀'", "1.2.😀.x", 0xF0, 2),
+        )
+    ),
     (names.parse, 4, "no identifier has this name", {"no name.1": (110, 0), "x": (120, 0)}),
-    (names.parse, 4, "expected digit, got 'x'", {"sysUpTime.x": (120, 1), "ANSI X9.62.x": (120, 1), "1.x": (120, 1)}),
+    (
+        names.parse,
+        4,
+        "expected digit, got 'x'",
+        {"sysUpTime.x": (120, 1), "ANSI X9.62.x": (120, 1), "1.x": (120, 1)},
+    ),
     (ObjectIdentifier, 11, "the text is not UTF-8", {"1.\ud800": (0, 1), "1.2.\ud800": (0, 2)}),
-    (names.parse, 11, "the text is not UTF-8", {"cn.\ud800": (0, 1), "1.2.\ud800": (0, 2), "c\ud800": (0, 0)}),
-    (from_bytes, 3, "OID contains arc with invalid base 128 encoding", {b"\x2a\x80\x01": (0, None)}),
+    (
+        names.parse,
+        11,
+        "the text is not UTF-8",
+        {"cn.\ud800": (0, 1), "1.2.\ud800": (0, 2), "c\ud800": (0, 0)},
+    ),
+    (
+        from_bytes,
+        3,
+        "OID contains arc with invalid base 128 encoding",
+        {b"\x2a\x80\x01": (0, None)},
+    ),
     (from_der, 14, "the tag is not 6", {b"": (0, None), b"\x26\1\x2a": (0, None)}),
-    (from_der, 14, "octets come after the element", {b"\6\1\x2a" + bytes(count): (0, None) for count in (1, 2, 3)}),
-    (ObjectIdentifier.read_der, 14, "the length is not in the form of DER, or octets are missing",
-        {b"\6": (0, None), b"\6\2\x2a": (0, None), b"\6\x81\1\x2a": (0, None), b"\6\x80\x2a\0\0": (0, None)}),
+    (
+        from_der,
+        14,
+        "octets come after the element",
+        {b"\6\1\x2a" + bytes(count): (0, None) for count in (1, 2, 3)},
+    ),
+    (
+        ObjectIdentifier.read_der,
+        14,
+        "the length is not in the form of DER, or octets are missing",
+        {
+            b"\6": (0, None),
+            b"\6\2\x2a": (0, None),
+            b"\6\x81\1\x2a": (0, None),
+            b"\6\x80\x2a\0\0": (0, None),
+        },
+    ),
     (from_arcs, 5, "an identifier has two arcs or more", {(1,): (0, None)}),
     (from_arcs, 1, "OID contains out-of-range arc: 3", {(3, 2**32): (3, None)}),
-    *((call, 2, "OID contains arc which is larger than 32-bits", {given: (0, None)}) for call, given in (
-        (from_arcs, (1, 2, 2**32)), (from_arcs, (2**32,)), (from_arcs, (2**32, 40, 2**32)), (OID.child, 2**32))),
+    *(
+        (call, 2, "OID contains arc which is larger than 32-bits", {given: (0, None)})
+        for call, given in (
+            (from_arcs, (1, 2, 2**32)),
+            (from_arcs, (2**32,)),
+            (from_arcs, (2**32, 40, 2**32)),
+            (OID.child, 2**32),
+        )
+    ),
 ]
 
 # What an interpreter runs, where another one has a class with some id.
@@ -89,64 +152,181 @@ OWN_ERRORS = [mock.Mock(side_effect=kind("own")) for kind in (IndexError, ValueE
 RAISING = type("Raising", (), dict(zip(("__index__", "__eq__"), OWN_ERRORS)))()
 
 # Values by what an error calls their type, and calls with an argument that has to be an identifier, by its name.
-OTHERS = {"bytes (from_bytes takes octets)": [b"1.2", OCTETS], "tuple (from_arcs takes arcs)": [(1, 2), ("1", "2")],
-    "NoneType": [None], "int": [1], "float": [1.2], "test_values.Arcs": [type("Arcs", (), {"arcs": OID.arcs})()]}
+OTHERS = {
+    "bytes (from_bytes takes octets)": [b"1.2", OCTETS],
+    "tuple (from_arcs takes arcs)": [(1, 2), ("1", "2")],
+    "NoneType": [None],
+    "int": [1],
+    "float": [1.2],
+    "test_values.Arcs": [type("Arcs", (), {"arcs": OID.arcs})()],
+}
 NOT_OIDS = OTHERS | {"str (ObjectIdentifier takes text)": ["1.2"]}
-OF_OTHERS = [("cryptography.x509", "dotted_string", "its .dotted_string"), ("asn1crypto.core", "dotted", "its .dotted")]
-NOT_TEXTS = {f"{module}.Other (ObjectIdentifier takes {hint})": [type("Other", (), {"__module__": module, field: 0})()]
-    for module, field, hint in [*OF_OTHERS, ("pyasn1.type.univ", "isPrefixOf", "its str()")]} | OTHERS
-OF_OIDS = {"oid": [names.name_of, names.names_of, names.display], "prefix": [OID.starts_with], "key": [
-    TABLE.nearest, TABLE.next_after, TABLE.subtree, TABLE.get, TABLE.__getitem__, TABLE.__delitem__, TABLE.__contains__,
-    *(lambda key, kind=kind: TABLE.update(kind({OID: 1, key: 1})) for kind in (dict, dict.items, collections.ChainMap)),
-    lambda key: SortedMap({key: 1}), lambda key: TABLE.pop(key, None), lambda key: TABLE.setdefault(key, 1),
-    lambda key: TABLE.__setstate__((None, {"_values": [OID, 1, key, 1]}))]}
+OF_OTHERS = [
+    ("cryptography.x509", "dotted_string", "its .dotted_string"),
+    ("asn1crypto.core", "dotted", "its .dotted"),
+]
+NOT_TEXTS = {
+    f"{module}.Other (ObjectIdentifier takes {hint})": [
+        type("Other", (), {"__module__": module, field: 0})()
+    ]
+    for module, field, hint in [*OF_OTHERS, ("pyasn1.type.univ", "isPrefixOf", "its str()")]
+} | OTHERS
+OF_OIDS = {
+    "oid": [names.name_of, names.names_of, names.display],
+    "prefix": [OID.starts_with],
+    "key": [
+        TABLE.nearest,
+        TABLE.next_after,
+        TABLE.subtree,
+        TABLE.get,
+        TABLE.__getitem__,
+        TABLE.__delitem__,
+        TABLE.__contains__,
+        *(
+            lambda key, kind=kind: TABLE.update(kind({OID: 1, key: 1}))
+            for kind in (dict, dict.items, collections.ChainMap)
+        ),
+        lambda key: SortedMap({key: 1}),
+        lambda key: TABLE.pop(key, None),
+        lambda key: TABLE.setdefault(key, 1),
+        lambda key: TABLE.__setstate__((None, {"_values": [OID, 1, key, 1]})),
+    ],
+}
 
 # Errors of Python: their type, what they say if it is of this package, the call and its inputs.
 REJECTED = [
     (TypeError, "", from_bytes, ["2.999", None, 42, [42, 3], OID, array.array("B", [42])]),
     (TypeError, "", from_der, ["2.999", None, 42, [6, 1, 42], OID, array.array("B", [6, 1, 42])]),
-    (TypeError, "", from_arcs, ["", "12", b"\1\2", bytearray(b"\1"), memoryview(b"\1\2"), None, 1, [1, "2"]]),
-    (TypeError, "", from_arcs, [{1: 2, 2: 3}, [1.0, 2], *((1, 2**32, arc) for arc in ("3", 2.0, None))]),
-    *((TypeError, f"arcs must be an iterable of int, not {text}", from_arcs, [kind({1: 2, 2: 3})]) for kind, text in (
-        (collections.OrderedDict, "collections.OrderedDict"), (set, "set (a set has no order)"),
-        (frozenset, "frozenset (a set has no order)"))),
+    (
+        TypeError,
+        "",
+        from_arcs,
+        ["", "12", b"\1\2", bytearray(b"\1"), memoryview(b"\1\2"), None, 1, [1, "2"]],
+    ),
+    (
+        TypeError,
+        "",
+        from_arcs,
+        [{1: 2, 2: 3}, [1.0, 2], *((1, 2**32, arc) for arc in ("3", 2.0, None))],
+    ),
+    *(
+        (TypeError, f"arcs must be an iterable of int, not {text}", from_arcs, [kind({1: 2, 2: 3})])
+        for kind, text in (
+            (collections.OrderedDict, "collections.OrderedDict"),
+            (set, "set (a set has no order)"),
+            (frozenset, "frozenset (a set has no order)"),
+        )
+    ),
     *((TypeError, "", call, ["1", 1.0, None, OID]) for call in (OID.child, OID.__getitem__)),
-    *((TypeError, f"{name} must be an ObjectIdentifier, not {text}", call, inputs)
-        for name, calls in OF_OIDS.items() for call in calls for text, inputs in NOT_OIDS.items()),
-    *((TypeError, f"{name} must be a str, not {type(given).__name__}", call, [given]) for given in (3, b"cn", None, OID)
-        for call, name in ((names.by_name, "name"), (names.parse, "text"))),
-    *((TypeError, f"octets must be bytes, bytearray or memoryview, not {text}", from_bytes, [given])
-        for text, given in (("list (bytes takes octets as numbers)", [1]),
-            ("str (ObjectIdentifier takes dotted text, and bytes.fromhex hexadecimal text)", "2A03"))),
-    *((TypeError, "octets must be items of 1 byte, not 2: see memoryview.cast", call,
-        [memoryview(array.array("H", [0x106, 42]))]) for call in (from_bytes, ObjectIdentifier.read_der)),
-    *((TypeError, f"{name} must be a str, not {text}", call, inputs) for text, inputs in NOT_TEXTS.items()
-        for name, call in (("text", ObjectIdentifier), ("specification", OID.__format__))),
-    *((ValueError, "an arc is negative: -2", call, [given]) for call, given in ((from_arcs, (1, -2)), (OID.child, -2))),
+    *(
+        (TypeError, f"{name} must be an ObjectIdentifier, not {text}", call, inputs)
+        for name, calls in OF_OIDS.items()
+        for call in calls
+        for text, inputs in NOT_OIDS.items()
+    ),
+    *(
+        (TypeError, f"{name} must be a str, not {type(given).__name__}", call, [given])
+        for given in (3, b"cn", None, OID)
+        for call, name in ((names.by_name, "name"), (names.parse, "text"))
+    ),
+    *(
+        (
+            TypeError,
+            f"octets must be bytes, bytearray or memoryview, not {text}",
+            from_bytes,
+            [given],
+        )
+        for text, given in (
+            ("list (bytes takes octets as numbers)", [1]),
+            (
+                "str (ObjectIdentifier takes dotted text, and bytes.fromhex hexadecimal text)",
+                "2A03",
+            ),
+        )
+    ),
+    *(
+        (
+            TypeError,
+            "octets must be items of 1 byte, not 2: see memoryview.cast",
+            call,
+            [memoryview(array.array("H", [0x106, 42]))],
+        )
+        for call in (from_bytes, ObjectIdentifier.read_der)
+    ),
+    *(
+        (TypeError, f"{name} must be a str, not {text}", call, inputs)
+        for text, inputs in NOT_TEXTS.items()
+        for name, call in (("text", ObjectIdentifier), ("specification", OID.__format__))
+    ),
+    *(
+        (ValueError, "an arc is negative: -2", call, [given])
+        for call, given in ((from_arcs, (1, -2)), (OID.child, -2))
+    ),
     (ValueError, "an arc is negative", OID.child, [-(10**5000)]),
-    *((ValueError, f"{text} is not among the arcs", OID.index, [arc]) for text, arc in [("9", 9), ("'1'", "1")]),
+    *(
+        (ValueError, f"{text} is not among the arcs", OID.index, [arc])
+        for text, arc in [("9", 9), ("'1'", "1")]
+    ),
     (ValueError, "2 is not among the arcs", exec, ["OID.index(2, 0, 1)"]),
-    *((KeyError, repr(OID), getattr(TABLE, name), [OID]) for name in ("__delitem__", "__getitem__", "pop")),
-    *((TypeError, "", call, [[], [1], [(OID, 1)], iter([(OID, 1)])])
-        for call in (lambda pairs: TABLE | pairs, lambda pairs: pairs | TABLE)),
+    *(
+        (KeyError, repr(OID), getattr(TABLE, name), [OID])
+        for name in ("__delitem__", "__getitem__", "pop")
+    ),
+    *(
+        (TypeError, "", call, [[], [1], [(OID, 1)], iter([(OID, 1)])])
+        for call in (lambda pairs: TABLE | pairs, lambda pairs: pairs | TABLE)
+    ),
     *((IndexError, "own", call, [RAISING]) for call in (OID.__getitem__, OID.child)),
     *((ValueError, "own", call, [RAISING]) for call in (OID.index, OID.count)),
     (ValueError, "own", lambda start: OID.index(3, start), [index(OWN_ERRORS[1])]),
-    (AttributeError, "", exec, [change.format(name) for change in ("OID.{} = 1", "del OID.{}")
-        for name in ("arcs", "der", "parent", "_octets", "_known", "other", "__dict__")]),
-    (TypeError, "", exec, ["OID[0] = 1", "del OID[0]", "OID.__class__ = Under", "ObjectIdentifier.other = 1",
-        "del ObjectIdentifier.child", "ObjectIdentifier()", "ObjectIdentifier('1.2', '1.3')", "OID.__copy__(1)",
-        "OID.__copy__(1, 2)", "OID.__deepcopy__()", "OID.__deepcopy__({}, {})", "OID.__array__(1, 2, 3)",
-        "OID.__array__(x=4)", "OID.index(2, None)", "OID.index(2, '0')", "OID.index(2, 1.0)"]),
-    (OverflowError, "a number has 32 bits", lambda numbers: OidError(*numbers),
-        [(4, 2**32 + 120), (4, -1), (2**32 + 4, 120), (-1, 0)]),
+    (
+        AttributeError,
+        "",
+        exec,
+        [
+            change.format(name)
+            for change in ("OID.{} = 1", "del OID.{}")
+            for name in ("arcs", "der", "parent", "_octets", "_known", "other", "__dict__")
+        ],
+    ),
+    (
+        TypeError,
+        "",
+        exec,
+        [
+            "OID[0] = 1",
+            "del OID[0]",
+            "OID.__class__ = Under",
+            "ObjectIdentifier.other = 1",
+            "del ObjectIdentifier.child",
+            "ObjectIdentifier()",
+            "ObjectIdentifier('1.2', '1.3')",
+            "OID.__copy__(1)",
+            "OID.__copy__(1, 2)",
+            "OID.__deepcopy__()",
+            "OID.__deepcopy__({}, {})",
+            "OID.__array__(1, 2, 3)",
+            "OID.__array__(x=4)",
+            "OID.index(2, None)",
+            "OID.index(2, '0')",
+            "OID.index(2, 1.0)",
+        ],
+    ),
+    (
+        OverflowError,
+        "a number has 32 bits",
+        lambda numbers: OidError(*numbers),
+        [(4, 2**32 + 120), (4, -1), (2**32 + 4, 120), (-1, 0)],
+    ),
     (OverflowError, "", lambda detail: OidError(4, detail), [2**64 + 120]),
     (ValueError, "", exec, ["OidError(99)", "f'{OID:d}'"]),
 ]
 
 # Subclasses with a state that is a tuple and without setattr; with a way of their own to be copied; and by copyreg.
 OWN = {"__setattr__": None, "__getstate__": lambda oid: ("state", "kept")}
-Kept = type("Kept", (Under,), OWN | {"__setstate__": lambda oid, state: vars(oid).update(text=state[1])})
+Kept = type(
+    "Kept", (Under,), OWN | {"__setstate__": lambda oid, state: vars(oid).update(text=state[1])}
+)
 Reduced = type("Reduced", (Kept,), {"__reduce__": lambda oid: (Reduced, ("2.5",), ("", "reduced"))})
 Listed = type("Listed", (Under,), {})
 copyreg.pickle(Listed, lambda oid: (Listed, ("2.5",), {"text": "listed"}))
@@ -169,7 +349,9 @@ def seconds(call, *given):
 
 def is_linear(call, of):
     short, long = of(10_000), of(80_000)
-    return any(seconds(call, long) < 24 * min(seconds(call, short) for _ in range(5)) for _ in range(5))
+    return any(
+        seconds(call, long) < 24 * min(seconds(call, short) for _ in range(5)) for _ in range(5)
+    )
 
 
 def copies_of(value, protocols=range(pickle.HIGHEST_PROTOCOL + 1)):
@@ -179,8 +361,16 @@ def copies_of(value, protocols=range(pickle.HIGHEST_PROTOCOL + 1)):
 
 def buffers_of(octets):
     """A bytearray, a view of it, and other buffers of the same octets, some not in a row or of two dimensions."""
-    views = memoryview(source := bytearray(octets)), memoryview(b"\0" + octets)[1:], memoryview(octets[::-1])[::-1]
-    wide = [memoryview(octets).cast("B", shape) for shape in ([1, len(octets)], [len(octets), 1]) if octets]
+    views = (
+        memoryview(source := bytearray(octets)),
+        memoryview(b"\0" + octets)[1:],
+        memoryview(octets[::-1])[::-1],
+    )
+    wide = [
+        memoryview(octets).cast("B", shape)
+        for shape in ([1, len(octets)], [len(octets), 1])
+        if octets
+    ]
     return [source, *views, *wide, octets, type("Octets", (bytes,), {})(octets)]
 
 
@@ -236,24 +426,41 @@ class Identifiers(unittest.TestCase):
 
     def test_an_error_keeps_octets_of_the_element(self):
         """It has at most 128, and no buffer of the caller, and says the same of a view and of bytes."""
-        found = {b"\6\2\x2a": 3, b"\6\0" + bytes(59): 2, b"\6\1\x80" + bytes(range(200)): 3, b"\7" + bytes(117): 2,
-                 b"\6": 1, b"\6\0": 2, b"\6\x7d\x80" + bytes(126): 127, b"\6\x7e\x80" + bytes(126): 128,
-                 b"\6\x7f\x80" + bytes(126): 128, b"\6\x80\x2a": 3, b"\6\x81\xc8\x80" + bytes(250): 128}
+        found = {
+            b"\6\2\x2a": 3,
+            b"\6\0" + bytes(59): 2,
+            b"\6\1\x80" + bytes(range(200)): 3,
+            b"\7" + bytes(117): 2,
+            b"\6": 1,
+            b"\6\0": 2,
+            b"\6\x7d\x80" + bytes(126): 127,
+            b"\6\x7e\x80" + bytes(126): 128,
+            b"\6\x7f\x80" + bytes(126): 128,
+            b"\6\x80\x2a": 3,
+            b"\6\x81\xc8\x80" + bytes(250): 128,
+        }
         for octets, count in found.items():
             source, view, *others = buffers_of(octets)
-            for error in [error_of(ObjectIdentifier.read_der, given) for given in (source, view, *others)]:
+            for error in [
+                error_of(ObjectIdentifier.read_der, given) for given in (source, view, *others)
+            ]:
                 self.assertEqual((bytes, octets[:count]), (type(error.given), error.given))
                 self.assertEqual({str(error)}, {str(other) for other in copies_of(error)})
             view.release()
             del source[:]
-            self.assertTrue(str(error).endswith(", given " + const_oid._shown(octets[:count])), error)
+            self.assertTrue(
+                str(error).endswith(", given " + const_oid._shown(octets[:count])), error
+            )
 
     def test_arcs_come_from_any_iterable(self):
         """Arcs are those of a list before it changes, and no other call comes between them."""
         child = ObjectIdentifier("2.5").child(index(own := mock.Mock()))
         found = child.arcs, own.call_count, from_arcs(OID), from_arcs([1, 2, 840, 10045, 2, True])
         self.assertEqual(((2, 5, 999), 1, OID, OID), found)
-        made = [from_arcs(iter([2, index(own), 3])), from_arcs([2, index(lambda: from_arcs((1, 2, 5))), 3])]
+        made = [
+            from_arcs(iter([2, index(own), 3])),
+            from_arcs([2, index(lambda: from_arcs((1, 2, 5))), 3]),
+        ]
         for change in ("clear", "pop", "reverse"):
             (arcs := [2]).extend([index(getattr(arcs, change)), 3])
             made.append(from_arcs(arcs))
@@ -268,29 +475,67 @@ class Identifiers(unittest.TestCase):
 
     def test_the_callers_modules_do_not_matter(self):
         """Errors, of one class, and copies need nothing of the caller's builtins or of sys.modules."""
-        calls = {"kind('1.40')": OidError, "kind(1)": TypeError, "oid.__copy__()": type(None), "copy(oid)": type(None)}
-        scope = {"__builtins__": {}, "kind": ObjectIdentifier, "oid": Named("2.999"), "copy": copy.deepcopy}
+        calls = {
+            "kind('1.40')": OidError,
+            "kind(1)": TypeError,
+            "oid.__copy__()": type(None),
+            "copy(oid)": type(None),
+        }
+        scope = {
+            "__builtins__": {},
+            "kind": ObjectIdentifier,
+            "oid": Named("2.999"),
+            "copy": copy.deepcopy,
+        }
         with mock.patch.dict(sys.modules), mock.patch.dict(vars(const_oid)):
-            for missing in ([], ["const_oid"], [name for name in sys.modules if name.startswith("const_oid")]):
+            for missing in (
+                [],
+                ["const_oid"],
+                [name for name in sys.modules if name.startswith("const_oid")],
+            ):
                 for name in missing:
                     del sys.modules[name]
-                self.assertEqual(calls, {call: type(error_of(eval, call, {**scope})) for call in calls})
+                self.assertEqual(
+                    calls, {call: type(error_of(eval, call, {**scope})) for call in calls}
+                )
                 importlib.import_module("const_oid")
 
     def test_errors_say_what_is_wrong(self):
         for call, code, text, inputs in WRONG:
             for given, (detail, piece) in inputs.items():
-                wanted = OidError, (code, detail), type(given), given, piece, f"{text}, given {given!r}"
-                for error in [error_of(call, one) for one in (buffers_of(given) if type(given) is bytes else [given])]:
-                    found = type(error), error.args, type(error.given), error.given, error.piece, str(error)
+                wanted = (
+                    OidError,
+                    (code, detail),
+                    type(given),
+                    given,
+                    piece,
+                    f"{text}, given {given!r}",
+                )
+                for error in [
+                    error_of(call, one)
+                    for one in (buffers_of(given) if type(given) is bytes else [given])
+                ]:
+                    found = (
+                        type(error),
+                        error.args,
+                        type(error.given),
+                        error.given,
+                        error.piece,
+                        str(error),
+                    )
                     self.assertEqual(wanted, found, call)
         self.assertEqual((3, 1), error_of(from_arcs, iter((3, 1))).given)
 
     def test_long_inputs_are_cut(self):
         """An error shows the start of what is long, and has it whole, also if it has more digits than Python prints."""
-        longs = {"'1.1.1": (ObjectIdentifier, 4000 * "1." + "x"), r"b'\x00\x00": (from_bytes, bytes(4000) + b"\x80"),
-                 "(3, 0, 1, ": (from_arcs, (3, *range(4000))), "(1, 2, <int": (from_arcs, (1, 2, 10**5000)),
-                 "156927543384": (OID.child, 2**190), "<int": (LONG.child, 10**5000)}
+        longs = {
+            "'1.1.1": (ObjectIdentifier, 4000 * "1." + "x"),
+            r"b'\x00\x00": (from_bytes, bytes(4000) + b"\x80"),
+            "(3, 0, 1, ": (from_arcs, (3, *range(4000))),
+            "(1, 2, <int": (from_arcs, (1, 2, 10**5000)),
+            "156927543384": (OID.child, 2**190),
+            "<int": (LONG.child, 10**5000),
+        }
         for start, (call, given) in longs.items():
             error = error_of(call, given)
             self.assertIs(given, error.given)
@@ -299,33 +544,78 @@ class Identifiers(unittest.TestCase):
 
     def test_identifiers_have_any_length(self):
         """Up to 350,000 octets, of the greatest arcs in one octet, whose text has four bytes for each, and of all."""
-        greatest = (b"\x7f", b"\x7f", 47, 127), (b"\x90\x80\x80\x80\x4f", GREATEST, *[2**32 - 1] * 2)
+        greatest = (b"\x7f", b"\x7f", 47, 127), (
+            b"\x90\x80\x80\x80\x4f",
+            GREATEST,
+            *[2**32 - 1] * 2,
+        )
         counts = 126, 127, 128, 253, 254, 255, 256, 257, 1000, 65_534, 65_535, 70_000
         for count, (first, later, second, arc) in itertools.product(counts, greatest):
             arcs, octets = (2, second, *[arc] * count), first + later * count
             oid, same = ObjectIdentifier(text := ".".join(map(str, arcs))), from_bytes(octets)
             child, parent = oid.child(2**32 - 1), oid.parent
-            pairs = [(octets, bytes(oid)), (octets, bytes(from_arcs(arcs))), (len(arcs), len(oid)), (arcs, oid.arcs)]
-            pairs += [(text, str(oid)), (arcs[1:], oid[1:]), (arcs[::-1], oid[::-1]), (arcs.count(arc), oid.count(arc))]
-            pairs += [(f"ObjectIdentifier('{text}')", repr(oid)), (same, oid), (hash(same), hash(oid))]
-            pairs += [(octets + GREATEST, bytes(child)), (octets, bytes(child.parent)), (arcs[:-1], parent.arcs)]
-            pairs += [(oid, parent.child(arc)), (oid, from_der(oid.der)), ((oid, b"\0"), oid.read_der(oid.der + b"\0"))]
-            wrong = (ObjectIdentifier, text + ".x"), (from_bytes, octets + b"\x80"), (from_arcs, (*arcs, 2**32))
+            pairs = [
+                (octets, bytes(oid)),
+                (octets, bytes(from_arcs(arcs))),
+                (len(arcs), len(oid)),
+                (arcs, oid.arcs),
+            ]
+            pairs += [
+                (text, str(oid)),
+                (arcs[1:], oid[1:]),
+                (arcs[::-1], oid[::-1]),
+                (arcs.count(arc), oid.count(arc)),
+            ]
+            pairs += [
+                (f"ObjectIdentifier('{text}')", repr(oid)),
+                (same, oid),
+                (hash(same), hash(oid)),
+            ]
+            pairs += [
+                (octets + GREATEST, bytes(child)),
+                (octets, bytes(child.parent)),
+                (arcs[:-1], parent.arcs),
+            ]
+            pairs += [
+                (oid, parent.child(arc)),
+                (oid, from_der(oid.der)),
+                ((oid, b"\0"), oid.read_der(oid.der + b"\0")),
+            ]
+            wrong = (
+                (ObjectIdentifier, text + ".x"),
+                (from_bytes, octets + b"\x80"),
+                (from_arcs, (*arcs, 2**32)),
+            )
             pairs += zip([(4, 120), (3, 0), (2, 0)], [error_of(*call).args for call in wrong])
             pairs += [(False, oid == from_bytes(octets + bytes(256)))]
             # Long values that differ would take minutes to print.
-            self.assertEqual([], [at for at, (wanted, found) in enumerate(pairs) if wanted != found], (count, arc))
+            self.assertEqual(
+                [],
+                [at for at, (wanted, found) in enumerate(pairs) if wanted != found],
+                (count, arc),
+            )
 
     def test_long_inputs_take_linear_time(self):
         def read(rest):
             while rest:
                 error = error_of(ObjectIdentifier.read_der, rest)
-                rest = rest[len(str(error)) and 256 :] if error else ObjectIdentifier.read_der(rest)[1]
+                rest = (
+                    rest[len(str(error)) and 256 :] if error else ObjectIdentifier.read_der(rest)[1]
+                )
 
-        printed, piece = lambda text: str(ObjectIdentifier(text)), lambda text: error_of(ObjectIdentifier, text).piece
-        text, wrong = lambda count: "1.2" + ".4294967295.7" * count, lambda count: text(count) + ".x"
+        printed, piece = (
+            lambda text: str(ObjectIdentifier(text)),
+            lambda text: error_of(ObjectIdentifier, text).piece,
+        )
+        text, wrong = (
+            lambda count: "1.2" + ".4294967295.7" * count,
+            lambda count: text(count) + ".x",
+        )
         self.assertEqual((text(80_000), 160_002), (printed(text(80_000)), piece(wrong(80_000))))
-        views = [lambda count: memoryview(b"\6\1\x2a" * count), lambda count: memoryview(bytes(count * 32))]
+        views = [
+            lambda count: memoryview(b"\6\1\x2a" * count),
+            lambda count: memoryview(bytes(count * 32)),
+        ]
         for call, of in ((printed, text), (piece, wrong), *zip((read, read), views)):
             self.assertTrue(is_linear(call, of))
 
@@ -338,13 +628,30 @@ class Identifiers(unittest.TestCase):
     def test_a_class_is_called_with_an_identifier(self):
         """As with tuple, it is the same object, but not of a subclass: else its __init__ would run again."""
         text, source = type("Text", (str,), {})(OID), Named("2.999")
-        made = [Under(OID), ObjectIdentifier(Under(OID)), ObjectIdentifier(text), ObjectIdentifier(text=str(OID))]
-        self.assertEqual(([Under, *[ObjectIdentifier] * 3], [OCTETS] * 4), ([*map(type, made)], [*map(bytes, made)]))
+        made = [
+            Under(OID),
+            ObjectIdentifier(Under(OID)),
+            ObjectIdentifier(text),
+            ObjectIdentifier(text=str(OID)),
+        ]
+        self.assertEqual(
+            ([Under, *[ObjectIdentifier] * 3], [OCTETS] * 4),
+            ([*map(type, made)], [*map(bytes, made)]),
+        )
         OID.__init__("2.5")
         setattr(type("Other", (ObjectIdentifier,), {}), "other", 1)
         self.assertEqual((True, "1.2.840.10045.2.1"), (ObjectIdentifier(OID) is OID, str(OID)))
-        made = [Named.from_bytes(b"\x88\x37"), Named.from_arcs((2, 999)), Named("2.999.1").parent, Named("2.999")]
-        made += [Named.read_der(source.der)[0], Named(source), Named(OID).parent.parent.parent.parent.child(3).parent]
+        made = [
+            Named.from_bytes(b"\x88\x37"),
+            Named.from_arcs((2, 999)),
+            Named("2.999.1").parent,
+            Named("2.999"),
+        ]
+        made += [
+            Named.read_der(source.der)[0],
+            Named(source),
+            Named(OID).parent.parent.parent.parent.child(3).parent,
+        ]
         made.append(source.child(7))
         for oid, text in zip(made, [*["2.999"] * 6, "1.2", "2.999.7"]):
             self.assertEqual((Named, text, text, 1), (type(oid), str(oid), oid.text, oid.calls))
@@ -359,7 +666,9 @@ class Identifiers(unittest.TestCase):
         self.assertEqual((oid, "changed"), (other, other.text))
         self.assertTrue(other is not oid and other.slot is oid.slot and other.other is oid.other)
         other.text = "again"
-        self.assertEqual(("changed", id(OID), id(OID)), (oid.text, id(copy.copy(OID)), id(copy.deepcopy(OID))))
+        self.assertEqual(
+            ("changed", id(OID), id(OID)), (oid.text, id(copy.copy(OID)), id(copy.deepcopy(OID)))
+        )
         # Copies are made as pickles are.
         for kind, text in {Kept: "kept", Reduced: "reduced", Listed: "listed"}.items():
             made = [copy.copy(kind("2.999")), *copies_of(kind("2.999"))]
@@ -384,37 +693,64 @@ class Identifiers(unittest.TestCase):
     def test_pairs_compare_as_tuples_do(self):
         for other in (str(OID), OCTETS, OID.arcs, None):
             self.assertEqual((False, True, {OID}), (OID == other, OID != other, {OID} - {other}))
-            self.assertEqual([TypeError] * 4, [type(error_of(order, OID, other)) for order in COMPARISONS[2:]])
+            self.assertEqual(
+                [TypeError] * 4, [type(error_of(order, OID, other)) for order in COMPARISONS[2:]]
+            )
         draw = random.Random(8825)
         for _ in range(10_000):
             arcs = [draw.getrandbits(draw.choice([1, 7, 32])) for _ in range(draw.randint(0, 39))]
             left = (draw.randint(0, 2), draw.randint(0, 39), *arcs)
             cut = left[: draw.randint(2, len(left))]
-            right = draw.choice([left, cut, (*cut, draw.getrandbits(32)), (left[0], 3, *left[2:]), (*left, 0)])
-            a, b = (draw.choice([ObjectIdentifier, Under]).from_arcs(arcs) for arcs in (left, right))
-            wanted = [left == right, left[: len(right)] == right, *(call(left, right) for call in COMPARISONS)]
+            right = draw.choice(
+                [left, cut, (*cut, draw.getrandbits(32)), (left[0], 3, *left[2:]), (*left, 0)]
+            )
+            a, b = (
+                draw.choice([ObjectIdentifier, Under]).from_arcs(arcs) for arcs in (left, right)
+            )
+            wanted = [
+                left == right,
+                left[: len(right)] == right,
+                *(call(left, right) for call in COMPARISONS),
+            ]
             found = [hash(a) == hash(b), a.starts_with(b), *(call(a, b) for call in COMPARISONS)]
             self.assertEqual(wanted, found, (left, right))
 
     def test_an_identifier_is_a_sequence(self):
-        kinds = isinstance(OID, collections.abc.Sequence), isinstance(TABLE, collections.abc.MutableMapping)
+        kinds = isinstance(OID, collections.abc.Sequence), isinstance(
+            TABLE, collections.abc.MutableMapping
+        )
         found = [*OID], [*reversed(OID)], len(OID), OID[3::2], kinds
-        self.assertEqual(([1, 2, 840, 10045, 2, 1], [1, 2, 10045, 840, 2, 1], 6, (10045, 1), (True, True)), found)
+        self.assertEqual(
+            ([1, 2, 840, 10045, 2, 1], [1, 2, 10045, 840, 2, 1], 6, (10045, 1), (True, True)), found
+        )
         items = [840, 841, True, 10**5000, *OCTETS[1:5], "1", None, OID, 1.0]
         self.assertEqual([0, 2, 11], [place for place, item in enumerate(items) if item in OID])
         self.assertEqual((1, 4, 2), (OID.index(2), OID.index(2, 2), OID.count(1)))
-        self.assertEqual((IndexError, 1), (type(error_of(OID.__getitem__, index(own := mock.Mock()))), own.call_count))
+        self.assertEqual(
+            (IndexError, 1),
+            (type(error_of(OID.__getitem__, index(own := mock.Mock()))), own.call_count),
+        )
         item = ctypes.pythonapi.PySequence_GetItem
         item.argtypes, item.restype = (ctypes.py_object, ctypes.c_ssize_t), ctypes.py_object
         bounds = (-(10**50), *range(-8, 9), 10**50)
-        calls = [(operator.getitem, 10**50), *itertools.product((operator.getitem, item), range(-13, 9))]
-        calls += [(tuple.index, 1, *given) for given in [*zip(bounds), *itertools.product(bounds, bounds)]]
+        calls = [
+            (operator.getitem, 10**50),
+            *itertools.product((operator.getitem, item), range(-13, 9)),
+        ]
+        calls += [
+            (tuple.index, 1, *given) for given in [*zip(bounds), *itertools.product(bounds, bounds)]
+        ]
         for call, *given in calls:
-            own, error = ObjectIdentifier.index if call is tuple.index else call, error_of(call, OID.arcs, *given)
+            own, error = ObjectIdentifier.index if call is tuple.index else call, error_of(
+                call, OID.arcs, *given
+            )
             self.assertIs(type(error), type(error_of(own, OID, *given)), given)
             self.assertTrue(error or call(OID.arcs, *given) == own(OID, *given), given)
         oid, row = ObjectIdentifier("1.2.3"), csv.writer(mock.Mock(write=str.strip)).writerow
-        self.assertEqual((b"*\3", b"\1\2\3", "1,2,3", "1.2.3"), (bytes(oid), bytearray(oid), row(oid), row([oid])))
+        self.assertEqual(
+            (b"*\3", b"\1\2\3", "1,2,3", "1.2.3"),
+            (bytes(oid), bytearray(oid), row(oid), row([oid])),
+        )
         for oid in (OID, Under(OID)):
             match oid, oid:
                 case [1, 2, 840, *rest], ObjectIdentifier((1, 2, *others)):
@@ -423,7 +759,10 @@ class Identifiers(unittest.TestCase):
                     self.fail("an identifier is no sequence, or has no arcs in a pattern")
 
     def test_format_is_that_of_the_text(self):
-        self.assertEqual("   2.999|2.999*|2.9|2.999", "{0:>8}|{0:*<6}|{0:.3}|{0}".format(ObjectIdentifier("2.999")))
+        self.assertEqual(
+            "   2.999|2.999*|2.9|2.999",
+            "{0:>8}|{0:*<6}|{0:.3}|{0}".format(ObjectIdentifier("2.999")),
+        )
         said = type("Said", (ObjectIdentifier,), {"__str__": lambda oid: "said"})("2.999")
         self.assertEqual("said, said|  said|Said('2.999')", f"{said}, {said!s}|{said:>6}|{said!r}")
 
@@ -432,7 +771,9 @@ class Identifiers(unittest.TestCase):
         references = [weakref.ref(oid, seen.append), weakref.ref(plain, seen.append)]
         self.assertEqual([oid, plain], [reference() for reference in references])
         del oid, plain
-        self.assertEqual(([None, None], references), ([reference() for reference in references], seen))
+        self.assertEqual(
+            ([None, None], references), ([reference() for reference in references], seen)
+        )
 
     def test_fields_of_an_error_are_attributes(self):
         """They may change, and are in vars and copies, also of a subclass with another base, or one that sets none."""
@@ -440,7 +781,10 @@ class Identifiers(unittest.TestCase):
         self.assertEqual({"code": Code.ARC_INVALID, "detail": 40, "given": "1.40"}, vars(given))
         shown = ["OidError(Code.ARC_INVALID, 40, '1.40')", "OidError(Code.DIGIT_EXPECTED, 255)"]
         self.assertEqual((Code, shown), (type(given.code), [repr(given), repr(OidError(4, 255))]))
-        self.assertEqual(["expected digit, got 'ÿ'", "DIGIT_EXPECTED 256"], [str(OidError(4, n)) for n in (255, 256)])
+        self.assertEqual(
+            ["expected digit, got 'ÿ'", "DIGIT_EXPECTED 256"],
+            [str(OidError(4, n)) for n in (255, 256)],
+        )
         self.assertEqual((None, None), (OidError(4, 120).piece, OidError(4, 120, "1.2").piece))
         old = b"cconst_oid\nOidError\n(I1\nI40\ntR(dVcode\ncconst_oid\nCode\n(I3\ntRsVdetail\nI7\nsVgiven\nVx\nsb."
         fields = {"code": Code.BASE128, "detail": 7, "given": "x"}
@@ -448,15 +792,23 @@ class Identifiers(unittest.TestCase):
         for error, wanted in ((given, fields), (OfSystem(1, 40), fields), (Bare(1, 40), {})):
             error.__setstate__(wanted)
             for other in [weakref.ref(error)(), copy.copy(error), *copies_of(error)]:
-                self.assertEqual((type(error), (1, 40), wanted), (type(other), other.args, vars(other)))
+                self.assertEqual(
+                    (type(error), (1, 40), wanted), (type(other), other.args, vars(other))
+                )
             error.given = 1
             del error.given
             self.assertFalse(hasattr(error, "given"))
 
     def test_interpreters_have_their_own_class(self):
         """Four at once, which have locks of their own since Python 3.12."""
-        interpreters = importlib.import_module("_xxsubinterpreters" if sys.version_info < (3, 13) else "_interpreters")
+        interpreters = importlib.import_module(
+            "_xxsubinterpreters" if sys.version_info < (3, 13) else "_interpreters"
+        )
         own = [interpreters.create() for _ in range(4)]
         with concurrent.futures.ThreadPoolExecutor(4) as threads:
-            said = [*threads.map(interpreters.run_string, own, 4 * [INTERPRETED.format(id(ObjectIdentifier))])]
+            said = [
+                *threads.map(
+                    interpreters.run_string, own, 4 * [INTERPRETED.format(id(ObjectIdentifier))]
+                )
+            ]
         self.assertEqual(([None] * 4, [None] * 4), (said, [*map(interpreters.destroy, own)]))

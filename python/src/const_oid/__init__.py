@@ -112,11 +112,19 @@ class OidError(ValueError):
     """
 
     code = cast(Code, _Field("code", "Why: one of `const_oid.Code`, which are numbers."))
-    detail = cast(int, _Field("detail", "The arc with `ARC_INVALID`, the byte with `DIGIT_EXPECTED`, and else 0."))
-    given = cast(object, _Field("given", "The text, octets (of read_der 128 of the element), arcs or arc, or None."))
+    detail = cast(
+        int,
+        _Field("detail", "The arc with `ARC_INVALID`, the byte with `DIGIT_EXPECTED`, and else 0."),
+    )
+    given = cast(
+        object,
+        _Field("given", "The text, octets (of read_der 128 of the element), arcs or arc, or None."),
+    )
     _piece: int | None = None
 
-    def __init__(self, code: int, detail: int = 0, given: object = None, piece: int | None = None) -> None:
+    def __init__(
+        self, code: int, detail: int = 0, given: object = None, piece: int | None = None
+    ) -> None:
         super().__init__(code, detail)
         error_text(code, detail)  # an error if a number is out of range
         self.code, self.detail, self.given = Code(code), detail, given
@@ -144,11 +152,17 @@ class OidError(ValueError):
             text = _fault_of_element(self.given)
         elif self.code is Code.DIGIT_EXPECTED and self.detail < 256:
             character = re.search("[^\0-\x7f]", given) if self.detail > 127 else None
-            text = text.replace(chr(self.detail), repr(character[0] if character else chr(self.detail))[1:-1])
+            text = text.replace(
+                chr(self.detail), repr(character[0] if character else chr(self.detail))[1:-1]
+            )
             if re.match(r"\.[0-9]", given):
                 text += " (remove the first dot)"
             if re.match("[A-Za-z]", given) and self.piece == 0:
-                text = "no identifier has this name" if self._piece == 0 else f"{text} (names.parse takes names)"
+                text = (
+                    "no identifier has this name"
+                    if self._piece == 0
+                    else f"{text} (names.parse takes names)"
+                )
         return text if self.given is None else f"{text}, given {_shown(self.given)}"
 
     def __repr__(self) -> str:
@@ -172,10 +186,16 @@ Sequence.register(ObjectIdentifier)
 _HINTS: dict[type, str] = {str: "ObjectIdentifier takes text", bytes: "from_bytes takes octets"}
 _HINTS.update((kind, "from_arcs takes arcs") for kind in (tuple, list))
 _HINTS.update((kind, "a set has no order") for kind in (set, frozenset))
-_OF_OCTETS = _HINTS | {str: "ObjectIdentifier takes dotted text, and bytes.fromhex hexadecimal text"}
+_OF_OCTETS = _HINTS | {
+    str: "ObjectIdentifier takes dotted text, and bytes.fromhex hexadecimal text"
+}
 _OF_OCTETS.update((kind, "bytes takes octets as numbers") for kind in (tuple, list))
 # By an attribute that identifiers of cryptography, asn1crypto or pyasn1 have.
-_OF_OTHERS = {"dotted_string": "its .dotted_string", "dotted": "its .dotted", "isPrefixOf": "its str()"}
+_OF_OTHERS = {
+    "dotted_string": "its .dotted_string",
+    "dotted": "its .dotted",
+    "isPrefixOf": "its str()",
+}
 
 # Shows a value as repr does, but cut if it is long. An int of more digits than Python prints is no error.
 _SHOWN = reprlib.Repr()
@@ -187,8 +207,16 @@ _shown = _SHOWN.repr
 def _wrong_type(wanted: str, given: object) -> TypeError:
     """The error for a value of another type, which says what makes an identifier of it, if that is known."""
     kind = type(given)
-    name = kind.__qualname__ if kind.__module__ == "builtins" else f"{kind.__module__}.{kind.__qualname__}"
-    hints = [f"ObjectIdentifier takes {text}" for field, text in _OF_OTHERS.items() if hasattr(kind, field)]
+    name = (
+        kind.__qualname__
+        if kind.__module__ == "builtins"
+        else f"{kind.__module__}.{kind.__qualname__}"
+    )
+    hints = [
+        f"ObjectIdentifier takes {text}"
+        for field, text in _OF_OTHERS.items()
+        if hasattr(kind, field)
+    ]
     hint = next(iter(hints), (_OF_OCTETS if wanted.startswith("octets") else _HINTS).get(kind))
     return TypeError(f"{wanted}, not {name}" + (f" ({hint})" if hint else ""))
 
@@ -201,7 +229,9 @@ def _not_among(arc: object) -> ValueError:
 def _copied(oid: ObjectIdentifier, memos: tuple[dict[int, object], ...]) -> object:
     """An identifier; if of a subclass, a copy by the protocol of pickle, and a deep one if there is a memo."""
     reductor = copyreg.dispatch_table.get(type(oid))
-    parts: Any = oid if type(oid) is ObjectIdentifier else reductor(oid) if reductor else oid.__reduce_ex__(4)
+    if type(oid) is ObjectIdentifier:
+        return oid
+    parts: Any = reductor(oid) if reductor else oid.__reduce_ex__(4)
     if not isinstance(parts, tuple):
         return oid
 

@@ -1,5 +1,14 @@
 # mypy: no-warn-unused-ignores
-from collections.abc import ItemsView, Iterable, Iterator, KeysView, Mapping, MutableMapping, Sequence, ValuesView
+from collections.abc import (
+    ItemsView,
+    Iterable,
+    Iterator,
+    KeysView,
+    Mapping,
+    MutableMapping,
+    Sequence,
+    ValuesView,
+)
 from typing import Any, Final, Protocol, Self, SupportsIndex, TypeVar, overload
 from typing_extensions import disjoint_base  # type: ignore[attr-defined] # unknown to older ones
 
@@ -17,7 +26,6 @@ def display(oid: ObjectIdentifier, /) -> str: ...
 def name_of(oid: ObjectIdentifier, /) -> str | None: ...
 def names_of(oid: ObjectIdentifier, /) -> tuple[str, ...]: ...
 def parse(text: str, /) -> ObjectIdentifier: ...
-
 @disjoint_base
 class ObjectIdentifier(Sequence[int]):
     __match_args__ = ("arcs",)
@@ -27,9 +35,10 @@ class ObjectIdentifier(Sequence[int]):
     def from_bytes(cls, octets: bytes | bytearray | memoryview, /) -> Self: ...
     @classmethod
     def from_der(cls, octets: bytes | bytearray | memoryview, /) -> Self: ...
+    # A view of two dimensions is copied, so what follows is bytes.
     @overload
     @classmethod
-    def read_der(cls, octets: memoryview, /) -> tuple[Self, memoryview]: ...  # bytes if of two dimensions
+    def read_der(cls, octets: memoryview, /) -> tuple[Self, memoryview]: ...
     @overload
     @classmethod
     def read_der(cls, octets: bytes | bytearray, /) -> tuple[Self, bytes]: ...
@@ -78,7 +87,9 @@ class Table(MutableMapping[ObjectIdentifier, Value]):
     @overload
     def pop(self, key: ObjectIdentifier, default: Value | Other) -> Value | Other: ...
     @overload
-    def setdefault(self: Table[Other | None], key: ObjectIdentifier, default: None = None) -> Other | None: ...
+    def setdefault(
+        self: Table[Other | None], key: ObjectIdentifier, default: None = None
+    ) -> Other | None: ...
     @overload
     def setdefault(self, key: ObjectIdentifier, default: Value) -> Value: ...
     def nearest(self, oid: ObjectIdentifier) -> tuple[ObjectIdentifier, Value] | None: ...

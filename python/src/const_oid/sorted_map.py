@@ -1,7 +1,16 @@
 """A mapping that is sorted by arcs."""
 
 import copyreg
-from collections.abc import Collection, ItemsView, Iterable, KeysView, Mapping, MutableMapping, Set, ValuesView
+from collections.abc import (
+    Collection,
+    ItemsView,
+    Iterable,
+    KeysView,
+    Mapping,
+    MutableMapping,
+    Set,
+    ValuesView,
+)
 from itertools import chain
 from reprlib import recursive_repr
 from typing import Any, Self, TypeVar, cast, overload
@@ -41,10 +50,16 @@ class SortedMap(Table[Value], MutableMapping[ObjectIdentifier, Value]):
 
     @overload
     @classmethod
-    def fromkeys(cls, keys: Iterable[ObjectIdentifier], value: None = None) -> "SortedMap[Any | None]": ...
+    def fromkeys(
+        cls, keys: Iterable[ObjectIdentifier], value: None = None
+    ) -> "SortedMap[Any | None]":
+        pass
+
     @overload
     @classmethod
-    def fromkeys(cls, keys: Iterable[ObjectIdentifier], value: Other) -> "SortedMap[Other]": ...
+    def fromkeys(cls, keys: Iterable[ObjectIdentifier], value: Other) -> "SortedMap[Other]":
+        pass
+
     @classmethod
     def fromkeys(cls, keys: Iterable[ObjectIdentifier], value: Any = None) -> "SortedMap[Any]":
         """A map of keys that all have one value.
@@ -96,7 +111,9 @@ class SortedMap(Table[Value], MutableMapping[ObjectIdentifier, Value]):
     def __ror__(self, other: Mapping[Key, Value]) -> Self:
         return _made(self, other, self) if isinstance(other, Mapping) else NotImplemented
 
-    def __ior__(self, other: Mapping[Key, Value] | Iterable[tuple[ObjectIdentifier, Value]]) -> Self:
+    def __ior__(
+        self, other: Mapping[Key, Value] | Iterable[tuple[ObjectIdentifier, Value]]
+    ) -> Self:
         super().update(other)
         return self
 
@@ -119,9 +136,13 @@ class SortedMap(Table[Value], MutableMapping[ObjectIdentifier, Value]):
     def __setstate__(self, state: Any) -> None:
         attributes, slots = state if isinstance(state, tuple) else (state, None)
         slots = slots or {}
-        if "_values" in slots and not hasattr(type(self), "_values"):  # an older pickle, with entries and maybe keys
+        if "_values" in slots and not hasattr(
+            type(self), "_values"
+        ):  # an older pickle, with entries and maybe keys
             entries, _ = slots.pop("_values"), slots.pop("_keys", None)
-            Table.__init__(self, entries if isinstance(entries, dict) else zip(entries[::2], entries[1::2]))
+            Table.__init__(
+                self, entries if isinstance(entries, dict) else zip(entries[::2], entries[1::2])
+            )
         if attributes:
             vars(self).update(attributes)
         for name, value in slots.items():
