@@ -13,6 +13,7 @@ use crate::compare::is_same_name;
 use crate::fast::words::CASE;
 use crate::links::{Entry, first_linked};
 use crate::oid::Oid;
+use std::str;
 
 /// A row: where its name begins, its length, and the index of its identifier.
 #[derive(Copy, Clone)]

@@ -6,6 +6,7 @@ use crate::erased::compare::is_same_name;
 use crate::erased::fast::words::CASE;
 use crate::erased::links::{Entry, first_linked};
 use crate::erased::oid::Oid;
+use core::str;
 
 /// A row: where its name begins, its length, and the index of its identifier.
 #[derive(Copy, Clone)]
