@@ -38,13 +38,19 @@ ROWS = {
     "octets to identifier": ("octets = octets_of(oid)", "from_octets(octets)"),
     "identifier to octets": ("", "octets_of(oid)"),
     "arcs to identifier": ("items = list(arcs(oid))", "from_arcs(items)"),
-    **{call: ("child", call) for call in ("len(oid)", "oid[-1]", "7 in oid", "arcs(oid)", "child(oid)", "parent(oid)")},
+    **{
+        call: ("child", call)
+        for call in ("len(oid)", "oid[-1]", "7 in oid", "arcs(oid)", "child(oid)", "parent(oid)")
+    },
     "==": ("", "oid == same"),
     "<": ("", "oid < other"),
     "hash": ("", "hash(oid)"),
     "lookup in a dict": ("table = {oid: 1, other: 2}", "table[same]"),
     "sorting 1,000": ("", "sorted(oids)"),
-    "sorting 100,000": ('oids = [parse(f"1.3.{n * 7919 % 100_003}.{n % 7}") for n in range(100_000)]', "sorted(oids)"),
+    "sorting 100,000": (
+        'oids = [parse(f"1.3.{n * 7919 % 100_003}.{n % 7}") for n in range(100_000)]',
+        "sorted(oids)",
+    ),
     "pickling 1,000": ("import pickle", "pickle.dumps(oids)"),
     "unpickling 1,000": ("import pickle; pickled = pickle.dumps(oids)", "pickle.loads(pickled)"),
 }
@@ -68,14 +74,41 @@ tracemalloc.start()
 made = kind(entries)
 octets = tracemalloc.get_traced_memory()[0] / len(made)
 tracemalloc.stop()"""
-CALLS = ["table[new] = 1; del table[new]", "table[new] = 1; table.pop(new)", "table[last] = 1; table.popitem()"]
-CALLS += ["table[oid] = 1", "table[oid]", "table.get(oid)", "table.get(new)", "oid in table", "new in table"]
-CALLS += ["table.setdefault(oid)", "table.pop(new, 0)", "table.update(one)", "table.update(ten)", "near(oid)"]
+CALLS = [
+    "table[new] = 1; del table[new]",
+    "table[new] = 1; table.pop(new)",
+    "table[last] = 1; table.popitem()",
+]
+CALLS += [
+    "table[oid] = 1",
+    "table[oid]",
+    "table.get(oid)",
+    "table.get(new)",
+    "oid in table",
+    "new in table",
+]
+CALLS += [
+    "table.setdefault(oid)",
+    "table.pop(new, 0)",
+    "table.update(one)",
+    "table.update(ten)",
+    "near(oid)",
+]
 CALLS += ["near(new)", "after(oid)", "table.subtree(oid)"]
 CALLS += [f"iter(table.{view}())" for view in ("keys", "values", "items")]
 OF_ALL = ["kind(entries)", "table.update(entries)", "kind(entries).update(others)"]
-OF_ALL += ["table == made", "table == entries", "table.copy()", "pickle.dumps(table)", "pickle.loads(pickled)"]
-OF_ALL += [f"drain({way}(table{view}))" for view in ("", ".values()", ".items()") for way in ("iter", "reversed")]
+OF_ALL += [
+    "table == made",
+    "table == entries",
+    "table.copy()",
+    "pickle.dumps(table)",
+    "pickle.loads(pickled)",
+]
+OF_ALL += [
+    f"drain({way}(table{view}))"
+    for view in ("", ".values()", ".items()")
+    for way in ("iter", "reversed")
+]
 
 
 def timer_of(names, setup, call):
@@ -115,7 +148,9 @@ def slower(title, sides, setup, rows, count=1):
         timers = [timer_of({**names}, needed, call) for names in spaces.values()]
         times = times_of(row, timers, count if call in OF_ALL else 1)
         aside = ("tuple", "dict", "asn1crypto" if row == "identifier to text" else "dict")
-        ours, *others = [time for name, time in zip(spaces, times) if time and not name.startswith(aside)]
+        ours, *others = [
+            time for name, time in zip(spaces, times) if time and not name.startswith(aside)
+        ]
         if others and ours > min(others):
             yield f"slower: {row}"
     if sides is MAPS:

@@ -14,7 +14,10 @@ octets_of, text_of = {
         lambda text: encoder.encode(ObjectIdentifier(text)),
         lambda der: [oid for oid, rest in [decoder.decode(der, ObjectIdentifier())] if not rest][0],
     ),
-    "JDK": (lambda text: jgss.Oid(text).getDER(), lambda der: jgss.Oid(JArray(JByte)(der)).toString()),
+    "JDK": (
+        lambda text: jgss.Oid(text).getDER(),
+        lambda der: jgss.Oid(JArray(JByte)(der)).toString(),
+    ),
     "BouncyCastle": (
         lambda text: asn1.ASN1ObjectIdentifier(text).getEncoded("DER"),
         lambda der: asn1.ASN1Primitive.fromByteArray(der).getId(),
@@ -24,6 +27,10 @@ for line in sys.stdin:
     data = bytes.fromhex(line)
     try:
         is_text = data[:1] in b" +-0123456789"
-        print(bytes(octets_of(data.decode()))[2:].hex() if is_text else str(text_of(data)).encode().hex())
+        print(
+            bytes(octets_of(data.decode()))[2:].hex()
+            if is_text
+            else str(text_of(data)).encode().hex()
+        )
     except Exception:
         print("rejected")

@@ -2,14 +2,24 @@
 """bench/peers/pictures.py [--check]: draws docs/matrix.svg and docs/cost.svg from the tables of docs/PEERS.md.
 
 With --check it writes nothing, and the exit status is 1 if a picture is not the one of its table."""
-import argparse, collections, pathlib, re, sys  # noqa: E401
+import argparse
+import collections
+import pathlib
+import re
+import sys
 from html import escape
 
 DOCS = pathlib.Path(__file__).resolve().parent.parent.parent / "docs"
-WIDTH, LEFT, ROW = 480, 136, 20  # a picture's width, for a phone; where columns and bars begin; a row's height
+WIDTH, LEFT, ROW = (
+    480,
+    136,
+    20,
+)  # a picture's width, for a phone; where columns and bars begin; a row's height
 BAR, MOST = 260, 10_500  # of the bars: the width of the longest, and its instructions
 # What is right for a kind of input.
-RIGHT = collections.defaultdict(lambda: "rejected", {"valid": "read", "arc ≥ 2^32": "either", "1.02": "either"})
+RIGHT = collections.defaultdict(
+    lambda: "rejected", {"valid": "read", "arc ≥ 2^32": "either", "1.02": "either"}
+)
 STYLE = """<style>
 text { fill: #222 } .note { fill: #666 } .small { font-size: 11px } .ours, .strong { font-weight: bold }
 .other { fill: #8a94b8 } .bar { fill: #0a6 }
@@ -20,7 +30,9 @@ text { fill: #222 } .note { fill: #666 } .small { font-size: 11px } .ours, .stro
 
 def table(name):
     """The head and the rows of the table of PEERS whose first heading this is."""
-    lines = re.search(rf"^\|{name}\|(?:.*\|\n)+", (DOCS / "PEERS.md").read_text(encoding="utf-8"), re.M)[0].splitlines()
+    lines = re.search(
+        rf"^\|{name}\|(?:.*\|\n)+", (DOCS / "PEERS.md").read_text(encoding="utf-8"), re.M
+    )[0].splitlines()
     head, _, *rows = [line.strip("|").replace("`", "").split("|") for line in lines]
     return head[1:], rows
 
@@ -34,7 +46,9 @@ def picture(height, title, lines):
     size = f'width="{WIDTH}" height="{height}" viewBox="0 0 {WIDTH} {height}"'
     fonts = 'font-family="Arial, Helvetica, Roboto, sans-serif" font-size="12"'
     head = f'<svg xmlns="http://www.w3.org/2000/svg" {size} {fonts} role="img" aria-labelledby="title">'
-    return "\n".join([head, f'<title id="title">{escape(title)}</title>', STYLE, *lines, "</svg>", ""])
+    return "\n".join(
+        [head, f'<title id="title">{escape(title)}</title>', STYLE, *lines, "</svg>", ""]
+    )
 
 
 def notes(top, *lines):
@@ -63,7 +77,9 @@ def row_of(y, column, name, headings, cells):
         x = LEFT + index * column
         look = {"either": "", "wrong": "dark strong"}.get(kind, "dark")
         yield f'<rect x="{x + 1:g}" y="{y + 1}" width="{column - 2:g}" height="{ROW - 2}" class="{kind}"/>'
-        yield text(x + column / 2, y + 14, words, f"{look} small".strip() if len(words) > 7 else look)
+        yield text(
+            x + column / 2, y + 14, words, f"{look} small".strip() if len(words) > 7 else look
+        )
 
 
 def table_of(top, title, headings, rows):
@@ -93,7 +109,9 @@ def matrix():
         "yellow, or after +: the share of valid inputs that are rejected",
         "no colour: either is right · no row: no such function",
     )
-    return picture(bottom + 48, "What each library does with 10,000 test inputs of each kind", lines)
+    return picture(
+        bottom + 48, "What each library does with 10,000 test inputs of each kind", lines
+    )
 
 
 def bars(top, title, values):
@@ -112,7 +130,10 @@ def cost():
     head, rows = table("Instructions")
     rows = [row for row in rows if row[0] not in ("this library, C, by rt", "by hand in C")]
     lines, bottom = [], 0
-    for what, title in [("read, 7 octets", "Text to octets"), ("print, 7 octets", "Octets to text")]:
+    for what, title in [
+        ("read, 7 octets", "Text to octets"),
+        ("print, 7 octets", "Octets to text"),
+    ]:
         cells = [(row[head.index(what) + 1], row[0].replace(", by cargo", "")) for row in rows]
         values = [(int(cell.replace(",", "")), name) for cell, name in cells if cell != "–"]
         lines += bars(bottom, title, values)
@@ -122,7 +143,9 @@ def cost():
     return picture(bottom + 34, f"{example}, by library", lines)
 
 
-parser = argparse.ArgumentParser(description=__doc__, formatter_class=argparse.RawDescriptionHelpFormatter)
+parser = argparse.ArgumentParser(
+    description=__doc__, formatter_class=argparse.RawDescriptionHelpFormatter
+)
 parser.add_argument("--check", action="store_true")
 is_check = parser.parse_args().check
 for name, svg in ("matrix.svg", matrix()), ("cost.svg", cost()):
