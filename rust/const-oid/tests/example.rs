@@ -1,70 +1,89 @@
-//! What `run` of the example `oid` prints, its errors and its exit status.
+//! What the program `oid` prints, its errors and its exit status. `cargo test` builds it, but neither with `--tests` nor
+//! with `--test`.
 #![cfg(feature = "db")]
 
-#[allow(dead_code)] // its `main`
-#[path = "../examples/oid.rs"]
-mod oid;
+use std::ffi::OsStr;
+use std::fs::File;
+use std::io::{Read, Write};
+use std::process::{Command, Stdio};
 
 const CN: &str = "2.5.4.3\n  by name: cn\n  octets: 55 04 03\n  arcs: [2, 5, 4, 3]\n  names: cn, commonName
   common names: id-at-commonName, Common Name, X520 Common Name\n";
-const KEY: &str = "1.2.840.10045.2.1\n  by name: id-ecPublicKey\n  octets: 2A 86 48 CE 3D 02 01
-  arcs: [1, 2, 840, 10045, 2, 1]\n  names: id-ecPublicKey
-  common names: EC, ECDSA, EC/ECDSA, X9.62 elliptic curve public key\n";
-const HASH: &str = "2.16.840.1.101.3.4.2.1\n  by name: id-sha256\n  octets: 60 86 48 01 65 03 04 02 01
-  arcs: [2, 16, 840, 1, 101, 3, 4, 2, 1]\n  names: id-sha256\n  common names: SHA-256, SHA256, sha256, SHA2-256, sha_256\n";
 const UP_TIME: &str = "1.3.6.1.2.1.1.3\n  by name: sysUpTime\n  octets: 2B 06 01 02 01 01 03
-  arcs: [1, 3, 6, 1, 2, 1, 1, 3]\n  names: \n  common names: sysUpTime\n";
+  arcs: [1, 3, 6, 1, 2, 1, 1, 3]\n  common names: sysUpTime\n";
 const C3: &str = "2.5.4.98\n  by name: c3\n  octets: 55 04 62\n  arcs: [2, 5, 4, 98]
-  names: \n  common names: c3, countryCode3c\n";
+  common names: c3, countryCode3c\n";
 const DSA: &str = "2.5.6.13\n  by name: dSA\n  octets: 55 06 0D\n  arcs: [2, 5, 6, 13]
   names: dSA\n  elsewhere, DSA: 1.2.840.10040.4.1\n";
-
-const ELEMENT: &str = "0.6.2.42.3\n  by name: 0.6.2.42.3\n  octets: 06 02 2A 03\n  arcs: [0, 6, 2, 42, 3]\n  names: \n";
-const SHORT: &str =
-    "0.6.1.42.79\n  by name: 0.6.1.42.79\n  octets: 06 01 2A 4F\n  arcs: [0, 6, 1, 42, 79]\n  names: \n";
+const SIGNING: &str = "2.23.140.1.4.1\n  by name: code-signing\n  octets: 67 81 0C 01 04 01
+  arcs: [2, 23, 140, 1, 4, 1]\n  common names: code-signing
+  elsewhere, codeSigning: 1.3.6.1.5.5.7.3.3\n  elsewhere, Code Signing: 1.3.6.1.5.5.7.3.3\n";
+const COUNTRIES: &str = "2.5.4.98 countryCode3c\n2.5.4.99 countryCode3n\n";
+const EXTENSIONS: &str = "2.5.29\n  by name: id-ce\n  octets: 55 1D\n  arcs: [2, 5, 29]\n  names: id-ce\n";
+const NO_NAME: &str = "2.9\n  by name: 2.9\n  octets: 59\n  arcs: [2, 9]\n";
+const ELEMENT: &str = "0.6.2.42.3\n  by name: 0.6.2.42.3\n  octets: 06 02 2A 03\n  arcs: [0, 6, 2, 42, 3]\n";
+const SHORT: &str = "0.6.1.42.79\n  by name: 0.6.1.42.79\n  octets: 06 01 2A 4F\n  arcs: [0, 6, 1, 42, 79]\n";
 
 /// Arguments with spaces between them, what is printed, and the errors.
 const ROWS: &[(&str, &str, &str)] = &[
-    ("2.9", "2.9\n  by name: 2.9\n  octets: 59\n  arcs: [2, 9]\n  names: \n", ""),
+    ("2.9", NO_NAME, ""),
     ("2.5.4.3", CN, ""),
-    ("--hex 550403", CN, ""),
-    ("2A8648CE3D0201", KEY, ""),
-    ("2a8648ce3d0201", KEY, ""),
+    ("550403 --hex", CN, ""),
+    ("551D", EXTENSIONS, ""),
+    ("551d", EXTENSIONS, ""),
     ("--hex 06022A03", ELEMENT, ""),
     ("06012A4F", SHORT, ""),
-    ("06022A03", "", "06022A03: a whole element? Leave out tag and length, or give --hex first\n"),
-    ("0603550403", "", "0603550403: a whole element? Leave out tag and length, or give --hex first\n"),
-    ("550403", "", "550403: text, or octets? For octets, give --hex first\n"),
-    ("2..5", "", "2..5: repeated consecutive '..' characters in OID\n"),
+    ("06022A03", "", "06022A03: a whole element? Leave out tag and length, or give --hex\n"),
+    ("0603550403", "", "0603550403: a whole element? Leave out tag and length, or give --hex\n"),
+    ("550403", "", "550403: text, or octets? For octets, give --hex\n"),
     ("2.\x1B[31m5", "", "2.\\u{1b}[31m5: expected digit, got '\\u{1b}'\n"),
     ("2A8001", "", "2A8001: OID contains arc with invalid base 128 encoding\n"),
-    ("2A8", "", "2A8: not octets in hexadecimal. --help says more\n"),
-    ("2.5.4.3 --", CN, "--: expected digit, got '-'. --help says more\n"),
+    ("2A8", "", "2A8: not octets in hexadecimal\n"),
     ("--hex 2.5.4.3", "", "2.5.4.3: not octets in hexadecimal\n"),
-    ("--hex sha256", "", "sha256: not octets in hexadecimal. --help says more\n"),
+    ("--hex +2+A", "", "+2+A: not octets in hexadecimal\n"),
+    ("--hex sha256", "", "sha256: not octets in hexadecimal\n"),
     ("sha257", "", "sha257: expected digit, got 's'. No identifier has this name\n"),
     ("OID.sha257.1", "", "OID.sha257.1: expected digit, got 's'. No identifier has this name\n"),
     ("IF-MIB::ifDescr.x", "", "IF-MIB::ifDescr.x: expected digit, got 'x'\n"),
     ("OID.2.x", "", "OID.2.x: expected digit, got 'x'\n"),
-    ("sha256", HASH, ""),
-    ("2.16.840.1.101.3.4.2.1", HASH, ""),
     ("SYSUPTIME", UP_TIME, ""),
     ("c3", C3, ""),
     ("DSA", DSA, ""),
+    ("OID.dsa", DSA, ""),
+    ("code-signing", SIGNING, ""),
     ("CN", CN, ""),
     ("3.1 2.5.4.3", CN, "3.1: OID contains out-of-range arc: 3\n"),
+    ("-- 2.5.4.3", CN, ""),
+    ("2.5.4.3 --", CN, ""),
+    ("-- 2.5.4.3 --hex -- -", CN, "--hex: expected digit, got '-'\n--: expected digit, got '-'\n"),
+    (
+        "--search countrycode3 2..5 --search nope",
+        COUNTRIES,
+        "nope: no name contains it\n2..5: repeated consecutive '..' characters in OID\n",
+    ),
 ];
 
-/// What is printed, the errors, and the exit status.
-fn run(arguments: &str) -> (String, String, u8) {
-    run_each(arguments.split_whitespace())
+/// The program, which lies beside the folder of this test.
+fn oid(arguments: &[&str]) -> Command {
+    let test = std::env::current_exe().unwrap();
+    let mut command = Command::new(test.ancestors().nth(2).unwrap().join("examples/oid"));
+    command.args(arguments).stdin(Stdio::piped()).stdout(Stdio::piped()).stderr(Stdio::piped());
+    command
 }
 
-fn run_each<'a>(arguments: impl Iterator<Item = &'a str>) -> (String, String, u8) {
-    let arguments: Vec<String> = arguments.map(String::from).collect();
-    let (mut out, mut errors) = (Vec::new(), Vec::new());
-    let status = oid::run(&arguments, &mut out, &mut errors).unwrap();
-    (String::from_utf8(out).unwrap(), String::from_utf8(errors).unwrap(), status)
+/// What a program prints, its errors and its exit status. Lines are its standard input, if that is piped.
+fn run(command: &mut Command, lines: &[u8]) -> (String, String, i32) {
+    let mut child = command.spawn().expect("cargo test builds the program");
+    if let Some(mut stdin) = child.stdin.take() {
+        stdin.write_all(lines).unwrap();
+    }
+    let output = child.wait_with_output().unwrap();
+    let [printed, errors] = [output.stdout, output.stderr].map(|text| String::from_utf8(text).unwrap());
+    (printed, errors, output.status.code().unwrap())
+}
+
+fn assert_runs(command: &mut Command, lines: &[u8], printed: &str, errors: &str, status: i32) {
+    assert_eq!(run(command, lines), (printed.into(), errors.into(), status), "{command:?}");
 }
 
 /// Each row of what people type is read, and displayed, or has its error, with escapes.
@@ -72,10 +91,10 @@ fn run_each<'a>(arguments: impl Iterator<Item = &'a str>) -> (String, String, u8
 fn reads_what_people_type() {
     for line in include_str!("../../../crates/oid_rows/typed_names.tsv").lines() {
         let [input, wanted, shown] = Vec::from_iter(line.split('\t')).try_into().unwrap();
-        let (out, errors, status) = run_each([input].into_iter());
-        let is_read = out.starts_with(&format!("{wanted}\n  by name: {shown}\n")) && errors.is_empty();
-        let error = format!("{input}: {wanted}").escape_debug().to_string().replace("\\'", "'");
-        let is_wrong = errors.starts_with(&error) && out.is_empty();
+        let (printed, errors, status) = run(&mut oid(&["--", input]), b"");
+        let is_read = printed.starts_with(&format!("{wanted}\n  by name: {shown}\n")) && errors.is_empty();
+        let error = format!("{}: {wanted}", input.trim_ascii()).escape_debug().to_string().replace("\\'", "'");
+        let is_wrong = errors.starts_with(&error) && printed.is_empty();
         assert!(if status == 0 { is_read } else { is_wrong }, "{input}");
     }
 }
@@ -83,27 +102,83 @@ fn reads_what_people_type() {
 #[test]
 fn prints_each_row() {
     for (arguments, printed, errors) in ROWS {
-        let expected = (printed.to_string(), errors.to_string(), u8::from(!errors.is_empty()));
-        assert_eq!(run(arguments), expected, "{arguments}");
+        let arguments = Vec::from_iter(arguments.split(' '));
+        assert_runs(&mut oid(&arguments), b"", printed, errors, i32::from(!errors.is_empty()));
+    }
+    assert_eq!([255, 256].map(|len| run(&mut oid(&[&"2B".repeat(len)]), b"").2), [0, 1]);
+}
+
+/// A line may end as in Windows, or not at all, and may be blank. It may not be a flag.
+#[test]
+fn reads_lines() {
+    let lines = b"\n \r\n2.5.4.3\r\n--hex\n\xFF\n-\n 2.9";
+    let errors = "--hex: expected digit, got '-'\n\u{FFFD}: not UTF-8\n-: expected digit, got '-'\n";
+    let printed = CN.to_owned() + NO_NAME;
+    for arguments in [&[][..], &["-"], &["--", "-", "-"]] {
+        assert_runs(&mut oid(arguments), lines, &printed, errors, 1);
+    }
+    assert_runs(&mut oid(&["-", "--hex"]), b"550403 \r\n59", &printed, "", 0);
+}
+
+/// After a wrong flag nothing is printed but its error.
+#[test]
+fn a_wrong_flag_is_an_error() {
+    for flag in ["--nope", "-x", "--HEX", "--search=cn", "--search"] {
+        let error = if flag == "--search" { "no text follows" } else { "no such flag" };
+        let errors = format!("{flag}: {error}. --help says more\n");
+        assert_runs(&mut oid(&["2.5.4.3", "nope", "--help", flag]), b"", "", &errors, 2);
     }
 }
 
+/// The help fits a terminal of 80 columns and 24 lines.
 #[test]
-fn without_inputs_the_help_is_an_error() {
-    let (help, errors, status) = run("--help");
-    assert!(help.contains("oid [--hex] INPUT..") && errors.is_empty() && status == 0);
-    assert_eq!(run("-h"), (help.clone(), errors, status));
-    assert_eq!(run("--hex"), (String::new(), help, 1));
+fn prints_help_and_its_version() {
+    let (help, ..) = run(&mut oid(&["--help"]), b"");
+    assert!((10..24).contains(&help.lines().count()) && help.lines().all(|line| line.len() <= 80));
+    assert_runs(&mut oid(&["2.5.4.3", "-h"]), b"", &help, "", 0);
+    assert_runs(&mut oid(&["--version"]), b"", concat!("oid ", env!("CARGO_PKG_VERSION"), "\n"), "", 0);
 }
 
+/// A search finds the rows with a text in their names, each once, in the order of arcs.
 #[test]
-fn reads_255_octets() {
-    assert_eq!([255, 256].map(|len| run(&"2B".repeat(len)).2), [0, 1]);
+fn searches_names() {
+    let tables = [include_str!("../../names.tsv"), include_str!("../../common_names.tsv")].concat();
+    let mut rows: Vec<_> = tables.lines().map(|line| Vec::from_iter(line.split('\t'))).collect();
+    rows.sort_by_key(|row| Vec::from_iter(row[2].split('.').map(|arc| arc.parse::<u32>().unwrap())));
+    for text in ["sha", "ECDSA", "ANSI X9", "-", "--hex", "sha 256", ""] {
+        let found = rows.iter().filter(|row| row[3].to_lowercase().contains(&text.to_lowercase()));
+        let mut lines: Vec<_> = found.map(|row| format!("{} {}\n", row[2], row[3])).collect();
+        lines.dedup();
+        let errors = if lines.is_empty() { format!("{text}: no name contains it\n") } else { String::new() };
+        assert_runs(&mut oid(&["--search", text]), b"", &lines.concat(), &errors, i32::from(lines.is_empty()));
+    }
 }
 
+/// Where a reader wants no more, the program ends without an error.
 #[test]
-fn output_that_fails_is_an_error() {
-    let (inputs, mut out) = (["nope".into(), "2.5.4.3".into()], Vec::new());
-    assert!(oid::run(&inputs, &mut [].as_mut_slice(), &mut Vec::new()).is_err());
-    assert!(oid::run(&inputs, &mut out, &mut [].as_mut_slice()).is_err() && out == CN.as_bytes());
+fn a_closed_output_ends_it() {
+    let mut child = oid(&["--search", ""]).spawn().unwrap();
+    child.stdout.take().unwrap().read_exact(&mut [0; 9]).unwrap();
+    let output = child.wait_with_output().unwrap();
+    assert!(output.status.success() && output.stderr.is_empty());
+}
+
+#[cfg(unix)]
+#[test]
+fn an_argument_may_be_any_octets() {
+    let [input, flag] = [&b"\xFF.2"[..], b"-\xFF"].map(std::os::unix::ffi::OsStrExt::from_bytes);
+    assert_runs(oid(&["2.9"]).arg::<&OsStr>(input), b"", NO_NAME, "\u{FFFD}.2: not UTF-8\n", 1);
+    assert_runs(oid(&["2.9"]).arg::<&OsStr>(flag), b"", "", "-\u{FFFD}: no such flag. --help says more\n", 2);
+}
+
+/// Errors of files are printed. What is right is printed even if errors cannot be.
+#[cfg(target_os = "linux")]
+#[test]
+fn files_may_fail() {
+    let full = || File::create("/dev/full").unwrap();
+    assert_runs(oid(&["2.9"]).stdout(full()), b"", "", "oid: No space left on device (os error 28)\n", 1);
+    assert_runs(oid(&["nope", "2.9"]).stderr(full()), b"", NO_NAME, "", 1);
+    assert_runs(oid(&[]).stdin(File::open("/").unwrap()), b"", "", "oid: Is a directory (os error 21)\n", 1);
+    let terminal = File::options().read(true).write(true).open("/dev/ptmx").unwrap();
+    assert_runs(oid(&[]).stdin(terminal), b"", "", "oid: no input. --help says more\n", 2);
 }
