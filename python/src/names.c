@@ -14,7 +14,8 @@ static PyObject *bytes_of(PyObject *text, const char *argument) {
 static const_oid_octets items_of(PyObject *type, PyObject *oid) {
     if (is_identifier(oid))
         return ((Identifier *)oid)->items;
-    return raise_wrong_type(type, "oid must be an ObjectIdentifier", oid), (const_oid_octets){NULL, 0};
+    raise_wrong_type(type, "oid must be an ObjectIdentifier", oid);
+    return (const_oid_octets){NULL, 0};
 }
 
 static PyObject *by_name(PyObject *type, PyObject *name) {

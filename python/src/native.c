@@ -76,8 +76,10 @@ PyObject *raise_wrong_type(PyObject *self, const char *wanted, PyObject *given) 
 /* A new object of a type, with valid octets, to which it steals a reference. */
 static PyObject *allocate(PyTypeObject *type, PyObject *octets) {
     Identifier *self = octets ? (Identifier *)PyType_GenericAlloc(type, 0) : NULL;
-    if (!self)
-        return Py_DecRef(octets), NULL;
+    if (!self) {
+        Py_DecRef(octets);
+        return NULL;
+    }
     self->octets = octets;
     self->items = items_of(octets);
     return (PyObject *)self;
@@ -303,6 +305,16 @@ static PyObject *identifier_from_arcs(PyObject *type, PyObject *given) {
     return make((PyTypeObject *)type, finish(&out, type, status, fitting < count, items));
 }
 
+static PyObject *tuple_of(const uint32_t *arcs, size_t count) {
+    OWNED *made = PyTuple_New((Py_ssize_t)count);
+    for (size_t index = 0; made && index < count; index++) {
+        PyObject *arc = PyLong_FromUnsignedLong(arcs[index]);
+        if (!arc || PyTuple_SetItem(made, (Py_ssize_t)index, arc))
+            return NULL;
+    }
+    return made ? Py_NewRef(made) : NULL;
+}
+
 /* Octets have at most one arc more than there are octets. A finalizer may ask for the arcs while they are made. */
 static PyObject *first_arcs(Identifier *identifier) {
     OUTPUT out;
@@ -310,15 +322,9 @@ static PyObject *first_arcs(Identifier *identifier) {
     if (!reserve(&out, octets.len + 1, sizeof(uint32_t)))
         return NULL;
     const_oid_status status = const_oid_arcs(octets.octets, octets.len, out.start, out.len);
-    PyObject *arcs = PyTuple_New((Py_ssize_t)status.len);
-    for (size_t index = 0; arcs && index < status.len; index++) {
-        PyObject *arc = PyLong_FromUnsignedLong(((uint32_t *)out.start)[index]);
-        if (!arc || PyTuple_SetItem(arcs, (Py_ssize_t)index, arc))
-            arcs = (Py_DecRef(arcs), (PyObject *)NULL);
-    }
-    if (!identifier->arcs)
-        return identifier->arcs = arcs;
-    Py_DecRef(arcs);
+    OWNED *arcs = tuple_of(out.start, status.len);
+    if (arcs && !identifier->arcs)
+        identifier->arcs = Py_NewRef(arcs);
     return arcs ? identifier->arcs : NULL;
 }
 
@@ -471,13 +477,13 @@ static PyObject *identifier_copied(PyObject *self, PyObject *memo) {
     return call_support(self, "_copied", memo ? Py_BuildValue("O(O)", self, memo) : Py_BuildValue("O()", self));
 }
 
-/* Methods of the class by a function of the package of it and the arguments. */
-#define BY_FUNCTION(name) \
-    static PyObject *identifier_##name(PyObject *type, PyObject *arguments) { \
-        return call_support(type, "_" #name, Py_BuildValue("OO", type, arguments)); \
-    }
-BY_FUNCTION(pydantic_schema)
-BY_FUNCTION(pydantic_validators)
+static PyObject *identifier_pydantic_schema(PyObject *type, PyObject *arguments) {
+    return call_support(type, "_pydantic_schema", Py_BuildValue("OO", type, arguments));
+}
+
+static PyObject *identifier_pydantic_validators(PyObject *type, PyObject *arguments) {
+    return call_support(type, "_pydantic_validators", Py_BuildValue("OO", type, arguments));
+}
 
 /* numpy takes an identifier as one value, and not as a sequence. */
 static PyObject *identifier_array(PyObject *self, PyObject *arguments, PyObject *keywords) {
@@ -636,9 +642,9 @@ static PyType_Spec identifier_spec = {
 static int module_exec(PyObject *module) {
     unsigned long version = const_oid_version();
     if (version / 65536 != CONST_OID_VERSION_MAJOR) {
-        return PyErr_Format(PyExc_ImportError, "the library const_oid_c has version %lu, not %d", version / 65536,
-                   CONST_OID_VERSION_MAJOR),
-               -1;
+        PyErr_Format(PyExc_ImportError, "the library const_oid_c has version %lu, not %d", version / 65536,
+            CONST_OID_VERSION_MAJOR);
+        return -1;
     }
     OWNED *text = PyUnicode_FromFormat("%lu.%lu.%lu", version / 65536, version / 256 % 256, version % 256);
     OWNED *type = PyType_FromModuleAndSpec(module, &identifier_spec, NULL);

@@ -18,10 +18,11 @@ static inline void give_up(PyObject **reference) {
 #define OWNED __attribute__((cleanup(give_up))) PyObject
 
 typedef struct {
-    PyObject_HEAD const_oid_octets items; /* those of `octets` */
-    PyObject *octets;                     /* bytes that const_oid_check accepts */
-    PyObject *arcs;                       /* a tuple, or NULL before its first use */
-    Py_ssize_t count;                     /* how many arcs there are, or 0 before its first use */
+    PyObject ob_base;
+    const_oid_octets items; /* those of `octets` */
+    PyObject *octets;       /* bytes that const_oid_check accepts */
+    PyObject *arcs;         /* a tuple, or NULL before its first use */
+    Py_ssize_t count;       /* how many arcs there are, or 0 before its first use */
     PyObject *weak_references;
 } Identifier;
 

@@ -20,10 +20,10 @@ typedef struct {
 } Code;
 
 typedef struct {
-    PyObject *key; /* an identifier, or NULL where no entry is */
+    PyObject *key; /* an identifier, or NULL of a vacant entry */
     union {
         PyObject *value;
-        size_t vacant; /* of no entry, the number of another one: see add */
+        size_t next_vacant; /* of a vacant entry: the number of another one, or 0 */
     };
     Code code;
 } Entry;
@@ -34,8 +34,8 @@ typedef struct {
     size_t count, room;
 } Run;
 
-/* The code of none of its keys is above the bound, and that of no key in a later part is below. So most searches for a
- * part read no other key. The last part needs no bound. */
+/* Some keys in a row. Of each part but the last, which needs none, the bound is that of set_bound, or else no code of its
+ * keys is above it, and none of a later part's below. So most searches for a part read no key. */
 typedef struct {
     Code bound;
     uint32_t *indices;
@@ -45,12 +45,16 @@ typedef struct {
 /* The number of an entry is one more than its index, and 0 is none. */
 typedef struct {
     Entry *entries;
-    uint32_t *slots;                      /* numbers of entries by a hash of their keys: see slot_of */
-    Part *parts;                          /* indices in the order of the keys themselves, in parts that all have some */
-    uint32_t part_count, part_room, mask; /* and one less than how many slots there are, a power of two */
-    uint32_t size, used, room;            /* how many entries are there, were there at a time, and have room */
-    uint32_t vacant;                      /* the number of the first that was there */
-    unsigned long long version;           /* how often keys came or went */
+    uint32_t *slots; /* numbers of entries by a hash of their keys: see find_slot */
+    uint32_t mask;   /* one less than how many slots there are, a power of two */
+    Part *parts;     /* indices in the order of the keys themselves, in parts that all have some */
+    uint32_t part_count;
+    uint32_t part_room;
+    uint32_t size;              /* how many entries are there */
+    uint32_t used;              /* how many there were at a time: the others are vacant */
+    uint32_t room;              /* how many there is memory for */
+    uint32_t first_vacant;      /* the number of a vacant entry, or 0 */
+    unsigned long long version; /* how often keys came or went */
 } Tree;
 
 /* Where a key is in the order, or would be, which may be at the end of any part. */
@@ -60,20 +64,25 @@ typedef struct {
 } Place;
 
 typedef struct {
-    PyObject_HEAD Tree tree;
+    PyObject ob_base;
+    Tree tree;
 } Table;
 
 #define INLINE static inline __attribute__((always_inline))
 
 /* ---- Entries and runs ---- */
 
-/* Whether an object is an identifier. Most keys have the type of the first one. */
-static inline int can_be_key(const Tree *tree, PyObject *key) {
-    return (tree->used && tree->entries->key && Py_TYPE(key) == Py_TYPE(tree->entries->key)) || is_identifier(key);
+static inline Tree *tree_of(PyObject *self) {
+    return &((Table *)self)->tree;
 }
 
 static inline int is_key(PyObject *self, PyObject *key) {
-    return can_be_key(&((Table *)self)->tree, key) || raise_wrong_type(self, "key must be an ObjectIdentifier", key);
+    return is_identifier(key) || raise_wrong_type(self, "key must be an ObjectIdentifier", key);
+}
+
+static int no_memory(void) {
+    PyErr_NoMemory();
+    return -1;
 }
 
 static const const_oid_octets *items_of(PyObject *key) {
@@ -93,22 +102,24 @@ static inline uint64_t word_of(const uint8_t *octets) {
     return __BYTE_ORDER__ == __ORDER_LITTLE_ENDIAN__ ? __builtin_bswap64(word) : word;
 }
 
-/* A subidentifier of several octets comes after their number, which is above all single ones. If the codes of two keys
- * differ, the keys are in their order. */
+/* A subidentifier of several octets comes after 128 and their number, which is above all single ones. If the codes of two
+ * keys differ, the keys are in their order. */
 static Code encode(const const_oid_octets *items) {
-    uint8_t room[24] = {0}, *out = room, *number = NULL;
-    const uint8_t *octets = items->octets, *end = octets + (items->len < 16 ? items->len : 16); /* so they have room */
-    while (octets < end && (number || out < &room[12])) {
-        uint8_t octet = *octets++;
-        if (!number && octet > 127)
-            *(number = out++) = 128;
+    uint8_t code[24] = {0}, *out = code; /* for 16 octets, and the numbers of up to 8 subidentifiers */
+    uint8_t *number = NULL;              /* of the subidentifier that goes on, if it has several octets */
+    const uint8_t *octets = items->octets, *end = octets + (items->len < 16 ? items->len : 16);
+    for (; octets < end && (number || out < &code[12]); octets++) {
+        if (!number && *octets > 127) {
+            number = out++;
+            *number = 128;
+        }
         if (number)
-            ++*number;
-        *out++ = octet;
-        if (octet < 128)
+            *number += 1;
+        *out++ = *octets;
+        if (*octets < 128)
             number = NULL;
     }
-    return (Code){word_of(room), (uint32_t)(word_of(&room[8]) >> 32), 0};
+    return (Code){word_of(code), (uint32_t)(word_of(&code[8]) >> 32), 0};
 }
 
 static int compare_codes(Code left, Code right) {
@@ -155,7 +166,7 @@ static int reserve_run(Run *run, size_t more) {
     size_t room = run->count + run->count / 2 + more;
     Entry *entries = PyMem_Realloc(run->entries, room * sizeof *entries);
     if (!entries)
-        return PyErr_NoMemory(), -1;
+        return no_memory();
     run->entries = entries;
     run->room = room;
     return 0;
@@ -227,20 +238,21 @@ static int put_in_order(Run *run) {
 /* ---- The hash table: open addressing, with linear probing ---- */
 
 /* The slot of a key with a hash, or the free one, which is 0, where it would be. A key's slot is found from that of the
- * low bits of its hash on, before a free one. It has these bits of a number, and the others of the hash. */
-static inline uint32_t slot_of(const Tree *tree, PyObject *key, uint32_t hash) {
+ * low bits of its hash on, before a free one. It has these bits of the number, and the others of the hash. */
+static inline uint32_t find_slot(const Tree *tree, PyObject *key, uint32_t hash) {
     uint32_t mask = tree->mask, at = hash & mask;
-    for (; tree->slots[at]; at = (at + 1) & mask) {
-        uint32_t number = tree->slots[at] ^ (hash & ~mask);
-        if (number <= mask && is_same(tree->entries[number - 1].key, key))
+    while (tree->slots[at]) {
+        uint32_t slot = tree->slots[at];
+        if ((slot & ~mask) == (hash & ~mask) && is_same(tree->entries[(slot & mask) - 1].key, key))
             break;
+        at = (at + 1) & mask;
     }
     return at;
 }
 
 /* The entry of a key with a hash, or NULL. */
 static inline Entry *lookup_hashed(const Tree *tree, PyObject *key, uint32_t hash) {
-    uint32_t slot = tree->size ? tree->slots[slot_of(tree, key, hash)] : 0;
+    uint32_t slot = tree->size ? tree->slots[find_slot(tree, key, hash)] : 0;
     return slot ? &tree->entries[(slot & tree->mask) - 1] : NULL;
 }
 
@@ -306,7 +318,7 @@ static int reserve(Tree *tree, size_t more) {
 /* ---- The order ---- */
 
 /* The entry at a place, which moves on, or NULL after all. */
-static inline Entry *next_entry(const Tree *tree, Place *place) {
+INLINE Entry *next_entry(const Tree *tree, Place *place) {
     const Part *parts = tree->parts;
     uint32_t count = tree->part_count;
     if (place->part < count && place->index == parts[place->part].count)
@@ -328,8 +340,10 @@ INLINE uint32_t find_part(const Tree *tree, uint32_t end, const const_oid_octets
         int order = compare_codes(tree->parts[middle].bound, code);
         if (!order)
             order = compare(last_entry(tree, middle), items, code, is_before);
-        first = order < 0 ? middle + 1 : first;
-        end = order < 0 ? end : middle;
+        if (order < 0)
+            first = middle + 1;
+        else
+            end = middle;
     }
     return first;
 }
@@ -376,9 +390,12 @@ static uint32_t most_of(const Tree *tree) {
     return tree->part_count < 32 * PART ? PART : tree->part_count / 16;
 }
 
-/* Gives a part room for at least one index more than a count: for a multiple of eight, which is 32 octets. */
+/* Gives a part, of no more indices, room for a count of them: for a multiple of eight, which is 32 octets. */
 static int resize(Part *part, uint32_t count) {
-    uint32_t room = (count | 7) + 1, *indices = PyMem_Realloc(part->indices, room * sizeof *indices);
+    uint32_t room = (count + 7) / 8 * 8;
+    if (room == part->room)
+        return 0;
+    uint32_t *indices = PyMem_Realloc(part->indices, room * sizeof *indices);
     if (!indices)
         return -1;
     part->indices = indices;
@@ -386,7 +403,7 @@ static int resize(Part *part, uint32_t count) {
     return 0;
 }
 
-/* Puts an empty part, with such room, among the others. */
+/* Puts an empty part, with room for a count of indices, among the others. */
 static int add_part(Tree *tree, uint32_t at, uint32_t count) {
     Part part = {0};
     if (tree->part_count == tree->part_room) {
@@ -399,35 +416,75 @@ static int add_part(Tree *tree, uint32_t at, uint32_t count) {
     }
     if (resize(&part, count))
         return -1;
-    memmove(&tree->parts[at + 1], &tree->parts[at], (tree->part_count++ - at) * sizeof part);
+    memmove(&tree->parts[at + 1], &tree->parts[at], (tree->part_count - at) * sizeof part);
     tree->parts[at] = part;
+    tree->part_count++;
     return 0;
 }
 
-/* Makes room for an index at a place, in a full part by cutting it in two, of which the other has no more room than it
- * needs. Keys that come in order fill parts. */
+/* The bound of a part is the code of its last key. It stays when that key goes. */
+static void set_bound(Tree *tree, uint32_t at) {
+    tree->parts[at].bound = code_of(last_entry(tree, at));
+}
+
+/* Moves the second half of a part into a new one after it. */
+static int split(Tree *tree, uint32_t at) {
+    uint32_t kept = tree->parts[at].count / 2, moved = tree->parts[at].count - kept;
+    if (add_part(tree, at + 1, moved))
+        return -1;
+    Part *first = &tree->parts[at], *second = &tree->parts[at + 1];
+    memcpy(second->indices, &first->indices[kept], moved * sizeof *first->indices);
+    second->count = moved;
+    second->bound = first->bound;
+    first->count = kept;
+    resize(first, kept); /* or else it keeps its memory */
+    set_bound(tree, at);
+    return 0;
+}
+
+/* Gives a part room for one index more. */
+static int make_room_in(Tree *tree, uint32_t at) {
+    return resize(&tree->parts[at], tree->parts[at].count + 1);
+}
+
+/* Makes room for an index at a place. A full part is split, and the place is in one of both. But another part follows a
+ * full one at its end if that is the last: keys that come in order fill parts. */
 static int make_room(Tree *tree, Place *place) {
     if (!tree->part_count)
-        return add_part(tree, 0, 0);
-    Part *first = &tree->parts[place->part];
-    uint32_t count = first->count;
+        return add_part(tree, 0, 1);
+    uint32_t at = place->part, count = tree->parts[at].count;
     if (count < most_of(tree))
-        return count < first->room ? 0 : resize(first, count);
-    int is_last = place->part == tree->part_count - 1 && place->index == count;
-    uint32_t kept = is_last ? count : count / 2, moved = count - kept;
-    uint32_t is_moved = place->index >= kept;
-    if (add_part(tree, place->part + 1, moved - !is_moved))
+        return make_room_in(tree, at);
+    if (at == tree->part_count - 1 && place->index == count) {
+        if (add_part(tree, at + 1, 1))
+            return -1;
+        set_bound(tree, at);
+        *place = (Place){at + 1, 0, 0};
+        return 0;
+    }
+    if (split(tree, at))
         return -1;
-    first = &tree->parts[place->part];
-    memcpy(first[1].indices, &first->indices[kept], moved * sizeof *first->indices);
-    first[1] = (Part){first->bound, first[1].indices, moved, first[1].room};
-    first->count = kept;
-    first->bound = code_of(last_entry(tree, place->part));
-    if (moved)
-        resize(first, kept - is_moved); /* to less, or else it stays as it is */
-    if (is_moved)
-        *place = (Place){place->part + 1, place->index - kept, 0};
-    return 0;
+    uint32_t kept = tree->parts[at].count;
+    if (place->index >= kept)
+        *place = (Place){at + 1, place->index - kept, 0};
+    return make_room_in(tree, place->part);
+}
+
+/* For tests: whether each part has some keys, in order, which its bound and that of the part before it are right for. */
+static int is_whole(const Tree *tree) {
+    const Entry *last = NULL;
+    uint32_t count = 0;
+    for (Place place = {0, 0, 0}; count < tree->size; count++) {
+        Entry *entry = next_entry(tree, &place);
+        if (!entry || (last && const_oid_by_arcs(items_of(last->key), items_of(entry->key)) >= 0))
+            return 0;
+        if (place.part > 0 && compare_codes(tree->parts[place.part - 1].bound, code_of(entry)) > 0)
+            return 0;
+        if (place.part + 1 < tree->part_count && compare_codes(tree->parts[place.part].bound, code_of(entry)) < 0)
+            return 0;
+        last = entry;
+    }
+    return !tree->size || last == last_entry(tree, tree->part_count - 1);
 }
 
 /* ---- Changes ---- */
@@ -453,13 +510,13 @@ static void clear(Tree *tree) {
 static int fill_parts(Tree *tree) {
     for (uint32_t index = 0; index < tree->size;) {
         uint32_t left = tree->size - index, most = most_of(tree), count = left < most ? left : most;
-        if (add_part(tree, tree->part_count, count - 1))
+        if (add_part(tree, tree->part_count, count))
             return -1;
         Part *part = &tree->parts[tree->part_count - 1];
         for (uint32_t at = 0; at < count; at++)
             part->indices[at] = index++;
         part->count = count;
-        part->bound = code_of(&tree->entries[index - 1]);
+        set_bound(tree, tree->part_count - 1);
     }
     return 0;
 }
@@ -470,15 +527,16 @@ static int fill(Tree *tree, Run *run) {
     if (!entries)
         return -1;
     run->entries = entries;
-    Tree other = *tree, made = {.entries = entries, .version = other.version + 1};
+    Tree before = *tree, made = {.entries = entries, .version = before.version + 1};
     made.size = made.used = made.room = (uint32_t)run->count;
-    int error = reserve_slots(&made, made.size) || fill_parts(&made);
-    if (!error)
-        *tree = made, *run = (Run){0};
-    else
-        other = (Tree){.slots = made.slots, .parts = made.parts, .part_count = made.part_count};
-    drop_tree(other);
-    return error;
+    if (reserve_slots(&made, made.size) || fill_parts(&made)) {
+        drop_tree((Tree){.slots = made.slots, .parts = made.parts, .part_count = made.part_count});
+        return -1;
+    }
+    *tree = made;
+    *run = (Run){0};
+    drop_tree(before);
+    return 0;
 }
 
 /* Builds a tree anew of which an eighth is left, if there is memory for it, and gives back its own. An empty one then
@@ -497,7 +555,16 @@ static __attribute__((noinline)) void shrink(Tree *tree) {
     PyMem_Free(run.entries);
 }
 
-/* Puts an entry in, whose key is not there, where one was taken out, or else after all. Takes over its references. */
+/* The index of an entry that is used next: one that is vacant, or else the one after all. */
+static uint32_t take_index(Tree *tree) {
+    if (!tree->first_vacant)
+        return tree->used++;
+    uint32_t index = tree->first_vacant - 1;
+    tree->first_vacant = (uint32_t)tree->entries[index].next_vacant;
+    return index;
+}
+
+/* Puts an entry in, whose key is not there. Takes over its references. */
 static int add(Tree *tree, Entry entry) {
     Place place = place_of(tree, &entry);
     if (reserve(tree, 1) || make_room(tree, &place)) {
@@ -506,11 +573,10 @@ static int add(Tree *tree, Entry entry) {
         return -1;
     }
     Part *part = &tree->parts[place.part];
-    uint32_t *at = &part->indices[place.index];
-    memmove(at + 1, at, (part->count++ - place.index) * sizeof *at);
-    uint32_t index = *at = tree->vacant ? tree->vacant - 1 : tree->used++;
-    if (tree->vacant)
-        tree->vacant = (uint32_t)tree->entries[index].vacant;
+    uint32_t *at = &part->indices[place.index], index = take_index(tree);
+    memmove(at + 1, at, (part->count - place.index) * sizeof *at);
+    *at = index;
+    part->count++;
     tree->entries[index] = entry;
     fill_slot(tree->slots, tree->mask, tree->entries, index);
     tree->size++;
@@ -524,37 +590,47 @@ static Entry take(Tree *tree, Place place) {
     Part *part = &tree->parts[place.part];
     uint32_t *at = &part->indices[place.index], index = *at;
     Entry entry = tree->entries[index];
-    free_slot(tree, slot_of(tree, entry.key, entry.code.hash));
-    memmove(at, at + 1, (--part->count - place.index) * sizeof *at);
+    free_slot(tree, find_slot(tree, entry.key, entry.code.hash));
+    part->count--;
+    memmove(at, at + 1, (part->count - place.index) * sizeof *at);
     if (!part->count) {
         PyMem_Free(part->indices);
-        memmove(part, part + 1, (--tree->part_count - place.part) * sizeof *part);
+        tree->part_count--;
+        memmove(part, part + 1, (tree->part_count - place.part) * sizeof *part);
     }
-    tree->entries[index] = (Entry){.vacant = tree->vacant};
-    tree->vacant = index + 1;
+    tree->entries[index] = (Entry){.next_vacant = tree->first_vacant};
+    tree->first_vacant = index + 1;
+    tree->size--;
     tree->version++;
-    if (--tree->size <= tree->room / 8)
+    if (tree->size <= tree->room / 8)
         shrink(tree);
     return entry;
 }
 
-/* Sets an entry. Gives back the value of before, or, if its key was not there, the key in place of a value. */
+/* Sets an entry of a run, which keeps its key. It then has the value of before, or none if the key was not there. */
 static int exchange(Tree *tree, Entry *entry) {
-    Entry *there = lookup(tree, entry->key);
-    if (there)
-        return swap_values(there, entry), 0;
+    Entry *there = lookup_hashed(tree, entry->key, entry->code.hash);
+    if (there) {
+        swap_values(there, entry);
+        return 0;
+    }
     if (add(tree, *entry))
         return -1;
-    *entry = (Entry){.value = entry->key};
+    Py_IncRef(entry->key);
+    entry->value = NULL;
     return 0;
 }
 
 /* Undoes this, for which no memory is needed. */
 static void change_back(Tree *tree, Entry *entry) {
-    if (entry->key)
-        swap_values(lookup(tree, entry->key), entry);
-    else
-        *entry = take(tree, place_of(tree, lookup(tree, entry->value)));
+    Entry *there = lookup_hashed(tree, entry->key, entry->code.hash);
+    if (entry->value) {
+        swap_values(there, entry);
+        return;
+    }
+    Entry taken = take(tree, place_of(tree, there));
+    entry->value = taken.value;
+    Py_DecRef(taken.key); /* which the entry still has */
 }
 
 /* Sets all entries of a run, or none, with MemoryError. The run then has what is no longer needed. */
@@ -562,20 +638,22 @@ static int update(Tree *tree, Run *run) {
     size_t done = 0;
     int is_in_order = hash_all(run) || (!tree->size && put_in_order(run));
     if (is_in_order && !tree->size && run->count)
-        return fill(tree, run) ? PyErr_NoMemory(), -1 : 0;
+        return fill(tree, run) ? no_memory() : 0;
     while (done < run->count && !exchange(tree, &run->entries[done]))
         done++;
     if (done == run->count)
         return 0;
-    while (done--)
+    while (done > 0) {
+        done--;
         change_back(tree, &run->entries[done]);
-    return PyErr_NoMemory(), -1;
+    }
+    return no_memory();
 }
 
 /* ---- The class ---- */
 
 static int table_clear_all(PyObject *self) {
-    clear(&((Table *)self)->tree);
+    clear(tree_of(self));
     return 0;
 }
 
@@ -588,7 +666,7 @@ void table_dealloc(PyObject *self) {
 }
 
 static int table_traverse(PyObject *self, visitproc visit, void *arg) {
-    const Tree *tree = &((Table *)self)->tree;
+    const Tree *tree = tree_of(self);
     for (uint32_t index = 0; index < tree->used; index++) {
         if (!tree->entries[index].key)
             continue;
@@ -600,21 +678,22 @@ static int table_traverse(PyObject *self, visitproc visit, void *arg) {
 }
 
 static PyObject *raise_missing(PyObject *key) {
-    return PyErr_SetObject(PyExc_KeyError, key), (PyObject *)NULL;
+    PyErr_SetObject(PyExc_KeyError, key);
+    return NULL;
 }
 
 static Py_ssize_t table_len(PyObject *self) {
-    return ((Table *)self)->tree.size;
+    return tree_of(self)->size;
 }
 
 static int table_contains(PyObject *self, PyObject *key) {
-    return is_key(self, key) ? lookup(&((Table *)self)->tree, key) != NULL : -1;
+    return is_key(self, key) ? lookup(tree_of(self), key) != NULL : -1;
 }
 
 static PyObject *table_subscript(PyObject *self, PyObject *key) {
     if (!is_key(self, key))
         return NULL;
-    const Entry *entry = lookup(&((Table *)self)->tree, key);
+    const Entry *entry = lookup(tree_of(self), key);
     return entry ? Py_NewRef(entry->value) : raise_missing(key);
 }
 
@@ -625,28 +704,34 @@ static int add_new(Tree *tree, PyObject *key, PyObject *value) {
         return 0;
     Py_DecRef(value);
     Py_DecRef(key);
-    return PyErr_NoMemory(), -1;
+    return no_memory();
 }
 
 static int table_set(PyObject *self, PyObject *key, PyObject *value) {
-    Tree *tree = &((Table *)self)->tree;
+    Tree *tree = tree_of(self);
     if (!is_key(self, key))
         return -1;
     Entry *there = lookup(tree, key), entry = {.value = value};
-    if (!there)
-        return value ? add_new(tree, key, value) : (raise_missing(key), -1);
-    if (value)
-        swap_values(there, &entry), Py_IncRef(value);
-    else
+    if (!there && value)
+        return add_new(tree, key, value);
+    if (!there) {
+        raise_missing(key);
+        return -1;
+    }
+    if (value) {
+        Py_IncRef(value);
+        swap_values(there, &entry);
+    } else {
         entry = take(tree, place_of(tree, there));
+    }
     Py_DecRef(entry.value);
     Py_DecRef(entry.key);
     return 0;
 }
 
-/* Reads the arguments of a call, one or two, by place or name. */
-static int read_named(
-    PyObject *const *given, Py_ssize_t count, PyObject *names, const char *format, char **wanted, PyObject **values) {
+/* Reads the arguments of a call by place or name. */
+static int read_named(PyObject *const *given, Py_ssize_t count, PyObject *names, const char *format, char **wanted,
+    PyObject **key, PyObject **value) {
     Py_ssize_t named = names ? PyTuple_Size(names) : 0;
     OWNED *places = PyTuple_New(count), *keywords = PyDict_New();
     int error = !places || !keywords;
@@ -656,54 +741,65 @@ static int read_named(
         else
             error = PyDict_SetItem(keywords, PyTuple_GetItem(names, index - count), given[index]);
     }
-    return !error && PyArg_ParseTupleAndKeywords(places, keywords, format, wanted, &values[0], &values[1]);
+    return !error && PyArg_ParseTupleAndKeywords(places, keywords, format, wanted, key, value);
 }
 
-/* A method with arguments by place or name: a key, and maybe another value. */
-#define WITH_KEY(name) static PyObject *name(PyObject *self, PyObject *const *given, Py_ssize_t count, PyObject *names)
-#define READ(format, most, ...) \
-    static char *wanted[] = {__VA_ARGS__, NULL}; \
-    PyObject *values[2] = {NULL, NULL}; \
-    if (names || (size_t)count - 1 >= most) { \
-        if (!read_named(given, count, names, format, wanted, values)) \
-            return NULL; \
-        given = values, count = most; \
-    } \
-    PyObject *key = given[0]; \
-    Tree *tree = &((Table *)self)->tree; \
-    if (!is_key(self, key)) \
-    return NULL
-
-WITH_KEY(table_get) {
-    READ("O|O:get", 2, "key", "default");
-    const Entry *entry = lookup(tree, key);
-    return Py_NewRef(entry ? entry->value : count > 1 && given[1] ? given[1] : Py_None);
+/* The first argument of a call, which has to be an identifier, or NULL with an exception. The second one, if there is one
+ * to read and it is given, is put into a value. */
+INLINE PyObject *read_key(
+    PyObject *self, PyObject *const *given, Py_ssize_t count, PyObject *names, const char *format, PyObject **value) {
+    static char *one[] = {"oid", NULL}, *two[] = {"key", "default", NULL};
+    PyObject *key = NULL;
+    if (!names && count == 1) {
+        key = given[0];
+    } else if (!names && count == 2 && value) {
+        key = given[0];
+        *value = given[1];
+    } else if (!read_named(given, count, names, format, value ? two : one, &key, value)) {
+        return NULL;
+    }
+    return is_key(self, key) ? key : NULL;
 }
 
-WITH_KEY(table_pop) {
-    READ("O|O:pop", 2, "key", "default");
+static PyObject *table_get(PyObject *self, PyObject *const *given, Py_ssize_t count, PyObject *names) {
+    PyObject *value = Py_None, *key = read_key(self, given, count, names, "O|O:get", &value);
+    if (!key)
+        return NULL;
+    const Entry *entry = lookup(tree_of(self), key);
+    return Py_NewRef(entry ? entry->value : value);
+}
+
+static PyObject *table_pop(PyObject *self, PyObject *const *given, Py_ssize_t count, PyObject *names) {
+    PyObject *value = NULL, *key = read_key(self, given, count, names, "O|O:pop", &value);
+    if (!key)
+        return NULL;
+    Tree *tree = tree_of(self);
     Entry *there = lookup(tree, key);
     if (!there)
-        return count > 1 && given[1] ? Py_NewRef(given[1]) : raise_missing(key);
+        return value ? Py_NewRef(value) : raise_missing(key);
     Entry entry = take(tree, place_of(tree, there));
     Py_DecRef(entry.key);
     return entry.value;
 }
 
-WITH_KEY(table_setdefault) {
-    READ("O|O:setdefault", 2, "key", "default");
-    const Entry *entry = lookup(tree, key);
+static PyObject *table_setdefault(PyObject *self, PyObject *const *given, Py_ssize_t count, PyObject *names) {
+    PyObject *value = Py_None, *key = read_key(self, given, count, names, "O|O:setdefault", &value);
+    if (!key)
+        return NULL;
+    const Entry *entry = lookup(tree_of(self), key);
     if (entry)
         return Py_NewRef(entry->value);
-    PyObject *value = count > 1 && given[1] ? given[1] : Py_None;
-    return add_new(tree, key, value) ? NULL : Py_NewRef(value);
+    return add_new(tree_of(self), key, value) ? NULL : Py_NewRef(value);
 }
 
 /* A tuple of a key and a value, whose references it takes over. */
 static PyObject *pair_of(PyObject *key, PyObject *value) {
     PyObject *pair = PyTuple_New(2);
-    if (!pair)
-        return Py_DecRef(value), Py_DecRef(key), (PyObject *)NULL;
+    if (!pair) {
+        Py_DecRef(value);
+        Py_DecRef(key);
+        return NULL;
+    }
     PyTuple_SetItem(pair, 0, key);
     PyTuple_SetItem(pair, 1, value);
     return pair;
@@ -716,17 +812,23 @@ static __attribute__((noinline)) PyObject *pair_of_entry(const Entry *entry) {
 
 /* The tuple is made first, which may run code that changes the table. */
 static PyObject *table_popitem(PyObject *self, PyObject *Py_UNUSED(none)) {
-    Tree *tree = &((Table *)self)->tree;
+    Tree *tree = tree_of(self);
     OWNED *pair = PyTuple_New(2);
     if (!pair)
         return NULL;
-    if (!tree->size)
-        return PyErr_SetString(PyExc_KeyError, "popitem(): the map is empty"), NULL;
+    if (!tree->size) {
+        PyErr_SetString(PyExc_KeyError, "popitem(): the map is empty");
+        return NULL;
+    }
     uint32_t part = tree->part_count - 1;
     Entry entry = take(tree, (Place){part, tree->parts[part].count - 1, 1});
     PyTuple_SetItem(pair, 0, entry.key);
     PyTuple_SetItem(pair, 1, entry.value);
     return Py_NewRef(pair);
+}
+
+static PyObject *table_is_whole(PyObject *self, PyObject *Py_UNUSED(none)) {
+    return PyBool_FromLong(is_whole(tree_of(self)));
 }
 
 static PyObject *table_clear(PyObject *self, PyObject *Py_UNUSED(none)) {
@@ -747,14 +849,17 @@ static size_t common_len(const const_oid_octets *left, const const_oid_octets *r
 }
 
 /* A key that is a prefix of another one is also a prefix of the last key that is not after that. */
-WITH_KEY(table_nearest) {
-    READ("O:nearest", 1, "oid");
+static PyObject *table_nearest(PyObject *self, PyObject *const *given, Py_ssize_t count, PyObject *names) {
+    const Tree *tree = tree_of(self);
+    PyObject *key = read_key(self, given, count, names, "O:nearest", NULL);
+    if (!key)
+        return NULL;
     const Entry *entry = lookup(tree, key);
     if (entry)
         return pair_of_entry(entry);
     const_oid_octets above = *items_of(key);
     Place place = find(tree, &above, encode(&above));
-    while ((entry = entry_up_to(tree, place))) {
+    for (entry = entry_up_to(tree, place); entry; entry = entry_up_to(tree, place)) {
         above.len = common_len(&above, items_of(entry->key));
         if (above.len == items_of(entry->key)->len)
             return pair_of_entry(entry);
@@ -763,8 +868,11 @@ WITH_KEY(table_nearest) {
     return Py_NewRef(Py_None);
 }
 
-WITH_KEY(table_next_after) {
-    READ("O:next_after", 1, "oid");
+static PyObject *table_next_after(PyObject *self, PyObject *const *given, Py_ssize_t count, PyObject *names) {
+    const Tree *tree = tree_of(self);
+    PyObject *key = read_key(self, given, count, names, "O:next_after", NULL);
+    if (!key)
+        return NULL;
     Place place = find(tree, items_of(key), encode(items_of(key)));
     place.index += (uint32_t)place.is_there;
     const Entry *entry = next_entry(tree, &place);
@@ -773,13 +881,13 @@ WITH_KEY(table_next_after) {
 
 /* Appends entries from a place on, whose keys begin with some octets, or all. */
 static int append_all(const Tree *tree, Place place, const const_oid_octets *start, Run *run) {
-    int error = 0;
-    for (const Entry *entry; !error && (entry = next_entry(tree, &place));) {
+    for (const Entry *entry = next_entry(tree, &place); entry; entry = next_entry(tree, &place)) {
         if (start && !begins_with(entry, start))
             break;
-        error = append(NULL, run, entry->key, entry->value);
+        if (append(NULL, run, entry->key, entry->value))
+            return -1;
     }
-    return error;
+    return 0;
 }
 
 /* A list of tuples of what a run has, which it gives up. It is made last, when nothing else runs any more. */
@@ -787,7 +895,8 @@ static PyObject *list_of(Run *run, int error) {
     for (size_t index = 0; !error && index < run->count; index++) {
         Entry *entry = &run->entries[index], taken = *entry;
         *entry = (Entry){0};
-        error = !(entry->key = pair_of(taken.key, taken.value));
+        entry->key = pair_of(taken.key, taken.value);
+        error = !entry->key;
     }
     PyObject *list = error ? NULL : PyList_New((Py_ssize_t)run->count);
     for (Py_ssize_t index = 0; list && index < (Py_ssize_t)run->count; index++) {
@@ -798,14 +907,18 @@ static PyObject *list_of(Run *run, int error) {
     return list;
 }
 
-WITH_KEY(table_subtree) {
-    READ("O:subtree", 1, "oid");
+static PyObject *table_subtree(PyObject *self, PyObject *const *given, Py_ssize_t count, PyObject *names) {
+    const Tree *tree = tree_of(self);
+    PyObject *key = read_key(self, given, count, names, "O:subtree", NULL);
+    if (!key)
+        return NULL;
     Run run = {0};
-    return list_of(&run, append_all(tree, find(tree, items_of(key), encode(items_of(key))), items_of(key), &run));
+    const const_oid_octets *items = items_of(key);
+    return list_of(&run, append_all(tree, find(tree, items, encode(items)), items, &run));
 }
 
 static PyObject *table_sizeof(PyObject *self, PyObject *Py_UNUSED(none)) {
-    const Tree *tree = &((Table *)self)->tree;
+    const Tree *tree = tree_of(self);
     OWNED *own = PyObject_CallMethod((PyObject *)&PyBaseObject_Type, "__sizeof__", "O", self);
     size_t size = own ? PyLong_AsSize_t(own) : 0, slots = tree->slots ? (size_t)tree->mask + 1 : 0;
     size += tree->room * sizeof(Entry) + (size_t)tree->part_room * sizeof(Part);
@@ -859,7 +972,7 @@ static int collect_dict(PyObject *self, PyObject *given, Run *run) {
 static int collect(PyObject *self, PyObject *given, Run *run) {
     void *iter = PyType_GetSlot(Py_TYPE(given), Py_tp_iter);
     if (iter == (void *)table_iter)
-        return append_all(&((Table *)given)->tree, (Place){0, 0, 0}, NULL, run);
+        return append_all(tree_of(given), (Place){0, 0, 0}, NULL, run);
     if (PyDict_Check(given) && iter == PyType_GetSlot(&PyDict_Type, Py_tp_iter))
         return collect_dict(self, given, run);
     OWNED *method = attribute(given, "keys");
@@ -873,7 +986,7 @@ static int collect(PyObject *self, PyObject *given, Run *run) {
 /* Sets the entries of a mapping or an iterable: all, or none. */
 static int set_all(PyObject *self, PyObject *given) {
     Run run = {0};
-    int error = given && (collect(self, given, &run) || update(&((Table *)self)->tree, &run));
+    int error = given && (collect(self, given, &run) || update(tree_of(self), &run));
     drop(&run);
     return error ? -1 : 0;
 }
@@ -899,17 +1012,16 @@ static PyObject *table_update(PyObject *self, PyObject *arguments) {
  * Negative without memory. */
 static int pair_values(const Tree *tree, const Tree *other, Run *pairs) {
     Place place = {0, 0, 0}, at = {0, 0, 0};
-    int error = 0;
     if (tree->size != other->size)
         return 0;
-    for (const Entry *one; !error && (one = next_entry(tree, &place));) {
+    for (const Entry *one = next_entry(tree, &place); one; one = next_entry(tree, &place)) {
         const Entry *same = next_entry(other, &at);
         if (!is_same(one->key, same->key))
             return 0;
-        if (one->value != same->value)
-            error = append(NULL, pairs, one->value, same->value);
+        if (one->value != same->value && append(NULL, pairs, one->value, same->value))
+            return -1;
     }
-    return error ? -1 : 1;
+    return 1;
 }
 
 /* How many keys of a dict are looked up at once, so that each waits for memory while others do. */
@@ -924,7 +1036,7 @@ static int find_values(const Tree *tree, PyObject *dict, PyObject **values) {
     int found = 1, count = AT_ONCE;
     while (count == AT_ONCE) {
         for (count = 0; count < AT_ONCE && PyDict_Next(dict, &at, &keys[count], &others[count]); count++) {
-            if (!can_be_key(tree, keys[count]))
+            if (!is_identifier(keys[count]))
                 return 0;
             hashes[count] = hash_of(keys[count]);
             __builtin_prefetch(&tree->slots[hashes[count] & tree->mask]);
@@ -954,10 +1066,11 @@ static int pair_dict(const Tree *tree, PyObject *dict, Run *pairs) {
         return 0;
     PyObject **values = PyMem_Calloc(tree->used, sizeof *values);
     if (!values)
-        return PyErr_NoMemory(), -1;
+        return no_memory();
     int found = find_values(tree, dict, values);
     Place place = {0, 0, 0};
-    for (const Entry *one; found > 1 && (one = next_entry(tree, &place));) {
+    for (uint32_t left = tree->size; left > 0 && found == 2; left--) {
+        const Entry *one = next_entry(tree, &place);
         PyObject *other = values[one - tree->entries];
         if (one->value != other && append(NULL, pairs, one->value, other))
             found = -1;
@@ -977,11 +1090,11 @@ static int are_equal(const Run *pairs, int found) {
 /* None if the other one is neither a table nor a dict, nor of a subclass, all of which are read as they are. Their
  * values may change both, of which all is read before. */
 static PyObject *table_equals(PyObject *self, PyObject *other) {
-    const Tree *tree = &((Table *)self)->tree;
+    const Tree *tree = tree_of(self);
     Run pairs = {0};
     int found;
     if (base_by(Py_TYPE(other), table_dealloc))
-        found = pair_values(tree, &((Table *)other)->tree, &pairs);
+        found = pair_values(tree, tree_of(other), &pairs);
     else if (PyDict_Check(other))
         found = pair_dict(tree, other, &pairs);
     else
@@ -995,20 +1108,22 @@ static PyObject *table_equals(PyObject *self, PyObject *other) {
 
 /* The keys, values or entries of a table. */
 typedef struct {
-    PyObject_HEAD PyObject *table;
+    PyObject ob_base;
+    PyObject *table;
     unsigned char kind;
 } View;
 
-/* An iterator over them, forth or back. */
+/* An iterator over them, with a step of 1, or of -1, which is back. */
 typedef struct {
     View view; /* without a table after its end */
     unsigned long long version;
     const uint32_t *indices; /* those of a part */
-    uint32_t at, end, step;  /* the next one, what comes after the last, and 1, or UINT32_MAX, which is back */
-    uint32_t part, left;     /* the part's number, and how many are left in others */
+    ptrdiff_t part;          /* the part's number */
+    ptrdiff_t at, end, step; /* where the next index is, and where the part ends */
+    Py_ssize_t left;         /* how many are left in other parts */
 } Walk;
 
-enum { KEYS, VALUES, ENTRIES, BACK };
+enum { KEYS, VALUES, ENTRIES };
 
 static void view_dealloc(PyObject *self) {
     PyTypeObject *type = Py_TYPE(self);
@@ -1029,7 +1144,7 @@ static PyObject *walk_next(PyObject *self);
 /* Raises an error if keys have come or gone, which stays so; goes on to the next part; or ends. */
 static __attribute__((noinline)) PyObject *walk_on(Walk *walk) {
     PyObject *table = walk->view.table;
-    const Tree *tree = table ? &((Table *)table)->tree : NULL;
+    const Tree *tree = table ? tree_of(table) : NULL;
     if (tree && tree->version != walk->version) {
         OWNED *name = PyType_GetName(Py_TYPE(table));
         return name ? PyErr_Format(PyExc_RuntimeError, "%U changed during iteration", name) : NULL;
@@ -1039,10 +1154,11 @@ static __attribute__((noinline)) PyObject *walk_on(Walk *walk) {
         Py_DecRef(table);
         return NULL;
     }
-    const Part *part = &tree->parts[walk->part += walk->step];
+    walk->part += walk->step;
+    const Part *part = &tree->parts[walk->part];
     walk->indices = part->indices;
-    walk->at = walk->step == 1 ? 0 : part->count - 1;
-    walk->end = walk->at + part->count * walk->step;
+    walk->at = walk->step > 0 ? 0 : (ptrdiff_t)part->count - 1;
+    walk->end = walk->step > 0 ? (ptrdiff_t)part->count : -1;
     walk->left -= part->count;
     int are_far = walk->view.kind != VALUES && tree->part_count > PART; /* keys, which no cache has */
     for (uint32_t at = 0; are_far && at < part->count; at++)
@@ -1054,7 +1170,7 @@ static PyObject *walk_next(PyObject *self) {
     Walk *walk = (Walk *)self;
     if (walk->at == walk->end)
         return walk_on(walk);
-    const Tree *tree = &((Table *)walk->view.table)->tree;
+    const Tree *tree = tree_of(walk->view.table);
     if (tree->version != walk->version)
         return walk_on(walk);
     const Entry *entry = &tree->entries[walk->indices[walk->at]];
@@ -1066,7 +1182,7 @@ static PyObject *walk_next(PyObject *self) {
 
 static PyObject *walk_hint(PyObject *self, PyObject *Py_UNUSED(none)) {
     const Walk *walk = (Walk *)self;
-    return PyLong_FromUnsignedLong((walk->end - walk->at) * walk->step + walk->left);
+    return PyLong_FromSsize_t((walk->end - walk->at) * walk->step + walk->left);
 }
 
 static PyMethodDef walk_methods[] = {{"__length_hint__", walk_hint, METH_NOARGS, NULL}, {0}};
@@ -1088,26 +1204,27 @@ static PyType_Spec walk_spec = {
     walk_slots,
 };
 
-static PyObject *walk_over(PyObject *self, int way) {
+static PyObject *walk_over(PyObject *self, unsigned char kind, ptrdiff_t step) {
     PyTypeObject **type = PyType_GetModuleState(base_by(Py_TYPE(self), table_dealloc));
     Walk *walk = type && *type ? (Walk *)PyType_GenericAlloc(*type, 0) : NULL;
     if (!walk)
         return NULL;
-    const Tree *tree = &((Table *)self)->tree; /* after the allocation, which may run code that changes the table */
-    walk->view = (View){walk->view.ob_base, Py_NewRef(self), (unsigned char)(way % BACK)};
+    const Tree *tree = tree_of(self); /* after the allocation, which may run code that changes the table */
+    walk->view.table = Py_NewRef(self);
+    walk->view.kind = kind;
     walk->version = tree->version;
     walk->left = tree->size;
-    walk->step = way < BACK ? 1 : UINT32_MAX;
-    walk->part = way < BACK ? UINT32_MAX : tree->part_count;
+    walk->step = step;
+    walk->part = step > 0 ? -1 : (ptrdiff_t)tree->part_count;
     return (PyObject *)walk;
 }
 
 static PyObject *table_iter(PyObject *self) {
-    return walk_over(self, KEYS);
+    return walk_over(self, KEYS, 1);
 }
 
 static PyObject *table_reversed(PyObject *self, PyObject *Py_UNUSED(none)) {
-    return walk_over(self, BACK);
+    return walk_over(self, KEYS, -1);
 }
 
 static PyObject *view_new(PyTypeObject *type, PyObject *arguments, PyObject *Py_UNUSED(keywords)) {
@@ -1126,11 +1243,11 @@ static PyObject *view_new(PyTypeObject *type, PyObject *arguments, PyObject *Py_
 }
 
 static PyObject *view_iter(PyObject *self) {
-    return walk_over(((View *)self)->table, ((View *)self)->kind);
+    return walk_over(((View *)self)->table, ((View *)self)->kind, 1);
 }
 
 static PyObject *view_reversed(PyObject *self, PyObject *Py_UNUSED(none)) {
-    return walk_over(((View *)self)->table, ((View *)self)->kind + BACK);
+    return walk_over(((View *)self)->table, ((View *)self)->kind, -1);
 }
 
 static Py_ssize_t view_len(PyObject *self) {
@@ -1218,6 +1335,7 @@ static PyMethodDef table_methods[] = {
         ">>> names.subtree(ObjectIdentifier(\"2.5\"))\n"
         "[(ObjectIdentifier('2.5.4'), 1), (ObjectIdentifier('2.5.4.3'), 2)]"},
     {"_equals", table_equals, METH_O, "_equals($self, other, /)\n--\n\nWhether a map or a dict has the same entries."},
+    {"_is_whole", table_is_whole, METH_NOARGS, "For tests."},
     {"__class_getitem__", Py_GenericAlias, METH_O | METH_CLASS, "For types."},
     {"__reversed__", table_reversed, METH_NOARGS, "__reversed__($self, /)\n--\n\nAn iterator of keys, back."},
     {"__sizeof__", table_sizeof, METH_NOARGS, "__sizeof__($self, /)\n--\n\nThe octets of the map and its parts."},

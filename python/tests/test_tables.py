@@ -199,6 +199,7 @@ def shrunk(entries):
 
 def readings(table):
     """The entries of a map by each way to read them."""
+    assert table._is_whole()
     walk = [table.next_after(key) for key in (ObjectIdentifier("0.0"), *table)]
     back = [*reversed(table.items())], [
         *zip(reversed(table.keys()), reversed(table.values()), strict=True)
