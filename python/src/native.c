@@ -1,5 +1,5 @@
 /* The extension module const_oid._native, for the stable ABI of Python 3.11. An identifier holds its contents octets,
- * and const_oid.h computes all but equality and prefixes. Each interpreter has a module of its own, with the state. */
+ * which const_oid.h reads, writes and orders. Each interpreter has a module of its own, with the state. */
 #include "native.h"
 
 static const_oid_octets items_of(PyObject *bytes) {

@@ -537,10 +537,6 @@ class Sorted(unittest.TestCase):
             self.assertEqual(4 * [(source, {"x": 5})], [(one, vars(one)) for one in made])
         way = {"__getstate__": lambda table: dict(table), "__setstate__": SortedMap.update}
         self.assertEqual({one: 2}, type("Kind", (SortedMap,), way)(source) | {one: 2})
-        # Of version 1.5.0, by protocol 0, which makes the map by object.__new__.
-        old = b"ccopy_reg\n_reconstructor\n(cconst_oid.sorted_map\nSortedMap\nc__builtin__\nobject\nNtR(N(dV_values\n("
-        old += b"dcconst_oid._native\nrestored\n(c_codecs\nencode\n(VU\nVlatin1\ntRtRI1\nsstb."
-        self.assertEqual("SortedMap({ObjectIdentifier('2.5'): 1})", repr(pickle.loads(old)))
 
     def test_copies_are_as_a_subclass_of_dict_makes_them(self):
         """By its own __reduce__ or a reductor of copyreg, which may leave entries out. All are in copy() and |."""

@@ -189,7 +189,6 @@ OF_OIDS = {
         lambda key: SortedMap({key: 1}),
         lambda key: TABLE.pop(key, None),
         lambda key: TABLE.setdefault(key, 1),
-        lambda key: TABLE.__setstate__((None, {"_values": [OID, 1, key, 1]})),
     ],
 }
 
@@ -677,18 +676,12 @@ class Identifiers(unittest.TestCase):
     def test_pickles_are_short_and_checked(self):
         oids = [ObjectIdentifier(f"1.3.6.1.2.1.{arc}.4.7") for arc in range(2, 102)]
         self.assertLess(len(pickle.dumps(oids)) - len(pickle.dumps(oids[:1])), 99 * (8 + 10))
-        wrong = pickle.dumps(OID, 4).replace(OCTETS, OCTETS[:-1] + b"\x80")
+        pickled = pickle.dumps(OID, 4)
+        wrong = pickled.replace(OCTETS, OCTETS[:-1] + b"\x80")
         self.assertEqual((3, 0), error_of(pickle.loads, wrong).args)
-        # Made by version 1.2.0.
-        old = b"\x80\4\x95\x90\0\0\0\0\0\0\0\x8c\x11const_oid._native\x94\x8c\x08restored\x94\x93\x94C\3U\4\3\x94\x85"
-        old += b"\x94R\x94\x8c\x14const_oid.sorted_map\x94\x8c\tSortedMap\x94\x93\x94)\x81\x94N}\x94(\x8c\5_keys\x94N"
-        old += b"\x8c\7_values\x94}\x94(h\2C\2U\4\x94\x85\x94R\x94K\0h\2C\3U\4\3\x94\x85\x94R\x94K\1uu\x86\x94b\x86"
-        old += b"\x94."
-        oid, table = pickle.loads(old)
-        self.assertEqual(("2.5.4.3", [(oid.parent, 0), (oid, 1)]), (str(oid), list(table.items())))
         for other in (int, None, OID):
             with mock.patch.object(_native, "ObjectIdentifier", other):
-                self.assertIs(TypeError, type(error_of(pickle.loads, old)))
+                self.assertIs(TypeError, type(error_of(pickle.loads, pickled)))
 
     def test_pairs_compare_as_tuples_do(self):
         for other in (str(OID), OCTETS, OID.arcs, None):

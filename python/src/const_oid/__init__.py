@@ -39,7 +39,7 @@ recursion limit with a RecursionError. An OCTET STRING with such contents is pas
 10 2.5.29.37
 19 1.3.6.1.5.5.7.3.1
 
-The library const_oid_c computes each result but equality and prefixes. Identifiers and functions are thread-safe.
+The library const_oid_c parses, prints, encodes and orders. Identifiers, maps and functions are thread-safe.
 """
 
 import copy
@@ -50,7 +50,6 @@ import re
 import reprlib
 import sys
 from collections.abc import Sequence
-from types import SimpleNamespace
 from typing import Any, cast
 
 from . import _native, names
@@ -149,20 +148,17 @@ class OidError(ValueError):
         if self.code is Code.EMPTY and self.given and not isinstance(self.given, bytes):
             text = "an identifier has two arcs or more"
         elif self.code is Code.NO_ELEMENT and isinstance(self.given, bytes):
-            text = _fault_of_element(self.given)
+            text = _error_of_element(self.given)
         elif self.code is Code.DIGIT_EXPECTED and self.detail < 256:
-            character = re.search("[^\0-\x7f]", given) if self.detail > 127 else None
-            text = text.replace(
-                chr(self.detail), repr(character[0] if character else chr(self.detail))[1:-1]
-            )
+            found = re.search("[^\0-\x7f]", given) if self.detail > 127 else None
+            character = found[0] if found else chr(self.detail)
+            text = text.replace(chr(self.detail), repr(character)[1:-1])
             if re.match(r"\.[0-9]", given):
                 text += " (remove the first dot)"
-            if re.match("[A-Za-z]", given) and self.piece == 0:
-                text = (
-                    "no identifier has this name"
-                    if self._piece == 0
-                    else f"{text} (names.parse takes names)"
-                )
+            if self._piece == 0 and re.match("[A-Za-z]", given):
+                text = "no identifier has this name"
+            elif self.piece == 0 and re.match("[A-Za-z]", given):
+                text += " (names.parse takes names)"
         return text if self.given is None else f"{text}, given {_shown(self.given)}"
 
     def __repr__(self) -> str:
@@ -170,7 +166,7 @@ class OidError(ValueError):
         return f"{type(self).__name__}(Code.{self.code.name}, {self.detail}{given})"
 
 
-def _fault_of_element(octets: bytes) -> str:
+def _error_of_element(octets: bytes) -> str:
     """Why octets are not one whole element of DER."""
     if octets[:1] != b"\6":
         return "the tag is not 6"
@@ -207,17 +203,12 @@ _shown = _SHOWN.repr
 def _wrong_type(wanted: str, given: object) -> TypeError:
     """The error for a value of another type, which says what makes an identifier of it, if that is known."""
     kind = type(given)
-    name = (
-        kind.__qualname__
-        if kind.__module__ == "builtins"
-        else f"{kind.__module__}.{kind.__qualname__}"
-    )
-    hints = [
-        f"ObjectIdentifier takes {text}"
-        for field, text in _OF_OTHERS.items()
-        if hasattr(kind, field)
-    ]
-    hint = next(iter(hints), (_OF_OCTETS if wanted.startswith("octets") else _HINTS).get(kind))
+    name = f"{kind.__module__}.{kind.__qualname__}".removeprefix("builtins.")
+    hint = (_OF_OCTETS if wanted.startswith("octets") else _HINTS).get(kind)
+    for field, text in _OF_OTHERS.items():
+        if hasattr(kind, field):
+            hint = f"ObjectIdentifier takes {text}"
+            break
     return TypeError(f"{wanted}, not {name}" + (f" ({hint})" if hint else ""))
 
 
@@ -226,23 +217,32 @@ def _not_among(arc: object) -> ValueError:
     return ValueError(f"{_shown(arc)} is not among the arcs")
 
 
+class _Reduced:
+    """What is copied in place of an identifier, whose __copy__ the module copy would call again."""
+
+    def __init__(self, reduced: Any) -> None:
+        self.reduced = reduced
+
+    def __reduce_ex__(self, protocol: object) -> Any:
+        return self.reduced
+
+
 def _copied(oid: ObjectIdentifier, memos: tuple[dict[int, object], ...]) -> object:
     """An identifier; if of a subclass, a copy by the protocol of pickle, and a deep one if there is a memo."""
-    reductor = copyreg.dispatch_table.get(type(oid))
     if type(oid) is ObjectIdentifier:
         return oid
-    parts: Any = reductor(oid) if reductor else oid.__reduce_ex__(4)
-    if not isinstance(parts, tuple):
+    reductor = copyreg.dispatch_table.get(type(oid))
+    reduced: Any = reductor(oid) if reductor else oid.__reduce_ex__(4)
+    if not isinstance(reduced, tuple):
         return oid
 
-    def made(*given: object) -> object:
-        result = parts[0](*given)
+    def make(*given: object) -> object:
+        made = reduced[0](*given)
         for memo in memos:  # where attributes refer to the identifier
-            memo[id(oid)] = result
-        return result
+            memo[id(oid)] = made
+        return made
 
-    # The module copy would call __copy__ of the identifier again.
-    source: Any = SimpleNamespace(__reduce_ex__=lambda _: (made, *parts[1:]))
+    source = _Reduced((make, *reduced[1:]))
     return copy.deepcopy(source, *memos) if memos else copy.copy(source)
 
 

@@ -135,17 +135,9 @@ class SortedMap(Table[Value], MutableMapping[ObjectIdentifier, Value]):
 
     def __setstate__(self, state: Any) -> None:
         attributes, slots = state if isinstance(state, tuple) else (state, None)
-        slots = slots or {}
-        if "_values" in slots and not hasattr(
-            type(self), "_values"
-        ):  # an older pickle, with entries and maybe keys
-            entries, _ = slots.pop("_values"), slots.pop("_keys", None)
-            Table.__init__(
-                self, entries if isinstance(entries, dict) else zip(entries[::2], entries[1::2])
-            )
         if attributes:
             vars(self).update(attributes)
-        for name, value in slots.items():
+        for name, value in (slots or {}).items():
             setattr(self, name, value)
 
 
