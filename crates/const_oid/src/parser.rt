@@ -111,10 +111,11 @@ pub(crate) fn parse_inlined(
         Ok(root) => root,
         Err(wrong) => return Err(wrong),
     };
-    match append_group(out, 0, number, capacity) {
-        Ok(used) => parse_later(text, end, out, used, capacity),
-        Err(fault) => Err(Wrong::Value { fault, end }),
-    }
+    let used = match append_group(out, 0, number, capacity) {
+        Ok(used) => used,
+        Err(fault) => return Err(Wrong::Value { fault, end }),
+    };
+    parse_later(text, end, out, used, capacity)
 }
 
 /// Appends the octets of the components after the dot at `end`, if there is one, to the first `used` octets of a slice,

@@ -20,8 +20,8 @@ whole : (capacity : ℕ) (text : List ℕ) (Is : ℕ → Type 0) (result : Resul
 whole capacity text Is (Ok len) is = is
 whole capacity text Is (Err wrong) is = (fault_at capacity is.0, is.1)
 
-pub returns-in-Ok-append_group-clause-answer : goal.returns-in-Ok-append_group-clause-answer
-returns-in-Ok-append_group-clause-answer c =
+pub returns-clause-answer : goal.returns-clause-answer
+returns-clause-answer c =
     let begun = root_written c.args.capacity c.args.out.now c.append_group.new.out c.in-Ok.ensures c.append_group.auto.out
     (Ok c.in-Ok-append_group.used) c.in-Ok-append_group.ensures.appends in
     whole c.args.capacity c.args.text.now _ c.parse_later.result (c.parse_later.ensures.answer [] c.args.out.now 0 begun)
