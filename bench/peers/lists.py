@@ -1,9 +1,9 @@
 #!/usr/bin/python3
 """bench/peers/lists.py LIST: the names of an installed library or program, in lines, each with its arcs: of openssl,
-openssl_list, cryptography, asn1crypto, pyasn1_modules, jdk (keytool's), slapd, net_snmp (files of libsnmp-base) or mibs
-(of python3-pysnmp4-mibs). Of missing: rows of all but Python's that neither table has, for rust/common_names.tsv, and
-how many."""
-import collections, contextlib, importlib, pathlib, pkgutil, re, subprocess, sys, tempfile  # noqa: E401
+openssl_list, cryptography, asn1crypto, pyasn1_modules, jdk (keytool's), slapd, schemas (of krb5-kdc-ldap, samba,
+sudo-ldap and 389-ds-base), simplesamlphp, net_snmp (files of libsnmp-base) or mibs (of python3-pysnmp4-mibs). Of missing:
+rows of all but Python's that neither table has, for rust/common_names.tsv, and how many."""
+import collections, contextlib, gzip, importlib, pathlib, pkgutil, re, subprocess, sys, tempfile  # noqa: E401
 
 FILES = [pathlib.Path(__file__).parents[2] / f"rust/{name}.tsv" for name in ("names", "common_names")]
 # The rows of both tables, each a document, a constant, arcs and a name.
@@ -13,7 +13,9 @@ SMI = """SNMPv2-SMI DEFINITIONS ::= BEGIN enterprises OBJECT IDENTIFIER ::= { is
     snmpModules OBJECT IDENTIFIER ::= { iso 3 6 1 6 3 } END"""
 # The first six whole, others without groups.
 MIBS = """SNMPv2 IF IP TCP UDP HOST-RESOURCES ENTITY ENTITY-SENSOR BRIDGE Q-BRIDGE IF-INVERTED-STACK EtherLike
-    IP-FORWARD RFC1213 SNMP-FRAMEWORK SNMP-USER-BASED-SM SNMP-VIEW-BASED-ACM""".split()
+    IP-FORWARD RFC1213 SNMP-FRAMEWORK SNMP-USER-BASED-SM SNMP-VIEW-BASED-ACM BGP4 Printer RMON UPS""".split()
+SCHEMAS = """doc/krb5-kdc-ldap/kerberos.schema.gz doc/samba/examples/LDAP/samba.schema doc/sudo-ldap/schema.OpenLDAP
+    dirsrv/data/60krb5kdc.ldif dirsrv/schema/60autofs.ldif dirsrv/schema/60eduperson.ldif""".split()
 JAVA = """class Names { public static void main(String[] of) { for (var oid : sun.security.util.KnownOIDs.values())
     System.out.println(oid.value() + "\\t" + oid.stdName() + "\\t" + String.join("\\t", oid.aliases())); } }"""
 
@@ -48,14 +50,31 @@ def jdk():
     return [(name, arcs) for arcs, *names in map(lambda line: line.split("\t"), lines) for name in filter(None, names)]
 
 
+def in_schema(text):
+    """Names with arcs in a schema of LDAP."""
+    for arcs, names in re.findall(r"\(\s*([\d.]+)\s+NAME\s+(\([^)]*\)|'[^']*')", re.sub("(?m)^#.*", "", text)):
+        yield from ((name, arcs) for name in re.findall("'([^']+)'", names))
+
+
 def slapd():
-    """Names with arcs in schemas, but for Active Directory's, and in programs, but for experiments."""
+    """Names in schemas, but for Active Directory's, and in programs, but for experiments."""
     root = pathlib.Path("/")
     for file in [root / "usr/sbin/slapd", *root.glob("etc/ldap/schema/*.schema"), *root.glob("usr/lib/ldap/*.so")]:
-        text = "" if file.name == "msuser.schema" else re.sub("(?m)^#.*", "", file.read_text(encoding="latin-1"))
-        for arcs, names in re.findall(r"\(\s*([\d.]+)\s+NAME\s+(\([^)]*\)|'[^']*')", text):
-            if not arcs.startswith("1.3.6.1.4.1.4203.666."):
-                yield from ((name, arcs) for name in re.findall("'([^']+)'", names))
+        if file.name != "msuser.schema":
+            found = in_schema(file.read_text(encoding="latin-1"))
+            yield from (row for row in found if not row[1].startswith("1.3.6.1.4.1.4203.666."))
+
+
+def schemas():
+    for file in SCHEMAS:
+        read = gzip.open if file.endswith(".gz") else open
+        with read(f"/usr/share/{file}", "rt", encoding="latin-1") as text:
+            yield from in_schema(text.read())
+
+
+def simplesamlphp():
+    text = pathlib.Path("/etc/simplesamlphp/attributemap/oid2name.php").read_text(encoding="utf-8")
+    return [(name, arcs) for arcs, name in re.findall(r"'urn:oid:([\d.]+)'\s+=> '(\w+)'", text)]
 
 
 def cryptography():
@@ -108,8 +127,8 @@ def mibs():
 def missing():
     """A name stands once."""
     names, counts = {name.lower() for *_, name in sum(TABLES, [])}, collections.Counter()
-    others = {"MIBs": mibs, "OpenSSL": openssl, "openssl list": openssl_list, "slapd": slapd, "net-snmp": net_snmp}
-    for document, read in {**others, "JDK": jdk}.items():
+    others = {"MIBs": mibs, "OpenSSL": openssl, "openssl list": openssl_list, "slapd": slapd, "schemas": schemas}
+    for document, read in {**others, "SimpleSAMLphp": simplesamlphp, "net-snmp": net_snmp, "JDK": jdk}.items():
         rows = []
         try:
             rows = [(*row, document)[:3] for row in read()]

@@ -17,37 +17,79 @@
 #define CONST_OID_NULL NULL
 #endif
 
-#define CONST_OID_COMMON_NAMES_COUNT 4502
+#define CONST_OID_COMMON_NAMES_COUNT 5943
 
 /* The octets of the entries, and their null-terminated names, in parts of at most 509. */
 CONST_OID_TABLE const uint8_t const_oid_common_bytes[][512] = {
-    "\x00" "\x03\xA2\x31\x05\x03\x01\x09\x01" "\x03\xA2\x31\x05\x03\x01\x09\x03" "\x03\xA2\x31\x05\x03\x01\x09\x04"
-    "\x03\xA2\x31\x05\x03\x01\x09\x06" "\x03\xA2\x31\x05\x03\x01\x09\x07" "\x03\xA2\x31\x05\x03\x01\x09\x09"
-    "\x03\xA2\x31\x05\x03\x01\x09\x0A" "\x03\xA2\x31\x05\x03\x01\x09\x15" "\x03\xA2\x31\x05\x03\x01\x09\x17"
-    "\x03\xA2\x31\x05\x03\x01\x09\x18" "\x03\xA2\x31\x05\x03\x01\x09\x1A" "\x03\xA2\x31\x05\x03\x01\x09\x1B"
-    "\x03\xA2\x31\x05\x03\x01\x09\x1D" "\x03\xA2\x31\x05\x03\x01\x09\x1E" "\x03\xA2\x31\x05\x03\x01\x09\x29"
-    "\x03\xA2\x31\x05\x03\x01\x09\x2B" "\x03\xA2\x31\x05\x03\x01\x09\x2C" "\x03\xA2\x31\x05\x03\x01\x09\x2E"
-    "\x03\xA2\x31\x05\x03\x01\x09\x2F" "\x03\xA2\x31\x05\x03\x01\x09\x31" "\x03\xA2\x31\x05\x03\x01\x09\x32" "\x04"
-    "\x04\x00" "\x04\x00\x8D\x45" "\x04\x00\x8D\x45\x02" "\x04\x00\x8D\x45\x02\x01" "\x04\x00\x8D\x45\x02\x02"
-    "\x04\x00\x8D\x45\x02\x03" "\x04\x00\x8D\x45\x02\x04" "\x04\x00\x8D\x45\x02\x05" "\x04\x00\x81\x95\x32"
-    "\x04\x00\x81\x95\x32\x01" "\x04\x00\x81\x95\x32\x01\x01" "\x04\x00\x81\x95\x32\x01\x03"
-    "\x04\x00\x81\x95\x32\x01\x04" "\x04\x00\x81\x95\x32\x01\x05" "\x04\x00\x81\x95\x32\x01\x06" "\x09" "\x09\x92\x26"
-    "\x09\x92\x26\x89\x93\xF2\x2C" "\x09\x92\x26\x89\x93\xF2\x2C\x64" "\x09\x92\x26\x89\x93\xF2\x2C\x64\x01"
+    "\x00" "\x02\x82\x06\x01\x0A\x07\x14" "\x03\xA2\x31\x05\x03\x01\x09\x01" "\x03\xA2\x31\x05\x03\x01\x09\x03"
+    "\x03\xA2\x31\x05\x03\x01\x09\x04" "\x03\xA2\x31\x05\x03\x01\x09\x06" "\x03\xA2\x31\x05\x03\x01\x09\x07"
+    "\x03\xA2\x31\x05\x03\x01\x09\x09" "\x03\xA2\x31\x05\x03\x01\x09\x0A" "\x03\xA2\x31\x05\x03\x01\x09\x15"
+    "\x03\xA2\x31\x05\x03\x01\x09\x17" "\x03\xA2\x31\x05\x03\x01\x09\x18" "\x03\xA2\x31\x05\x03\x01\x09\x1A"
+    "\x03\xA2\x31\x05\x03\x01\x09\x1B" "\x03\xA2\x31\x05\x03\x01\x09\x1D" "\x03\xA2\x31\x05\x03\x01\x09\x1E"
+    "\x03\xA2\x31\x05\x03\x01\x09\x29" "\x03\xA2\x31\x05\x03\x01\x09\x2B" "\x03\xA2\x31\x05\x03\x01\x09\x2C"
+    "\x03\xA2\x31\x05\x03\x01\x09\x2E" "\x03\xA2\x31\x05\x03\x01\x09\x2F" "\x03\xA2\x31\x05\x03\x01\x09\x31"
+    "\x03\xA2\x31\x05\x03\x01\x09\x32" "\x04" "\x04\x00" "\x04\x00\x8D\x45" "\x04\x00\x8D\x45\x02"
+    "\x04\x00\x8D\x45\x02\x01" "\x04\x00\x8D\x45\x02\x02" "\x04\x00\x8D\x45\x02\x03" "\x04\x00\x8D\x45\x02\x04"
+    "\x04\x00\x8D\x45\x02\x05" "\x04\x00\x8E\x46" "\x04\x00\x8E\x46\x01" "\x04\x00\x8E\x46\x01\x01"
+    "\x04\x00\x8E\x46\x01\x02" "\x04\x00\x8E\x46\x01\x03" "\x04\x00\x8E\x46\x01\x04" "\x04\x00\x8E\x46\x01\x05"
+    "\x04\x00\x8E\x46\x01\x06" "\x04\x00\x8E\x46\x01\x06\x01" "\x04\x00\x8E\x46\x01\x06\x02"
+    "\x04\x00\x8E\x46\x01\x06\x03" "\x04\x00\x8E\x46\x01\x07" "\x04\x00\x8F\x7A\x01\x02" "\x04\x00\x8F\x7A\x01\x04"
+    "\x04\x00\x8F\x7A\x01\x06" "\x04\x00\x8F\x7A\x01\x07" "\x04\x00\x81\x95\x32" "\x04\x00\x81\x95\x32\x01"
+    "\x04\x00\x81\x95\x32\x01\x01" "\x04\x00\x81\x95\x32\x01\x03" "\x04\x00\x81\x95\x32\x01\x04"
+    "\x04\x00\x81\x95\x32\x01\x05" "\x04\x00\x81\x95\x32\x01\x06" "\x04\x00\x81\x98\x27\x01\x01"
+    "\x04\x00\x81\x98\x27\x01\x02" "\x04\x00\x81\x98\x27\x01\x03" "\x04\x00\x81\x98\x27\x01\x04"
+    "\x04\x00\x81\x98\x27\x02" "\x04\x00\x81\x98\x27\x03\x01" "\x04\x00\x8B\xEC\x40\x01\x00"
+    "\x04\x00\x8B\xEC\x40\x01\x01" "\x04\x00\x8B\xEC\x40\x01\x02" "\x04\x00\x8B\xEC\x40\x01\x03"
+    "\x04\x00\x8B\xEC\x40\x01\x04" "\x04\x00\x8B\xEC\x40\x01\x05" "\x04\x00\x8B\xEC\x49\x01\x01"
+    "\x04\x00\x8B\xEC\x49\x01\x02" "\x04\x00\x8B\xEC\x49\x01\x03" "\x04\x00\x8B\xEC\x49\x01\x04"
+    "\x04\x00\x8B\xEC\x49\x02\x01" "\x09" "\x09\x92\x26" "\x09\x92\x26\x89\x93\xF2\x2C"
+    "\x09\x92\x26\x89\x93\xF2\x2C\x64" "\x09\x92\x26\x89\x93\xF2\x2C\x64\x01",
     "\x09\x92\x26\x89\x93\xF2\x2C\x64\x01\x01" "\x09\x92\x26\x89\x93\xF2\x2C\x64\x01\x14"
     "\x09\x92\x26\x89\x93\xF2\x2C\x64\x01\x19" "\x09\x92\x26\x89\x93\xF2\x2C\x64\x01\x1B"
     "\x09\x92\x26\x89\x93\xF2\x2C\x64\x01\x2C" "\x09\x92\x26\x89\x93\xF2\x2C\x64\x03"
     "\x09\x92\x26\x89\x93\xF2\x2C\x64\x03\x04" "\x09\x92\x26\x89\x93\xF2\x2C\x64\x03\x05"
     "\x09\x92\x26\x89\x93\xF2\x2C\x64\x04" "\x09\x92\x26\x89\x93\xF2\x2C\x64\x04\x04"
-    "\x09\x92\x26\x89\x93\xF2\x2C\x64\x04\x09" "\x09\x92\x26\x89\x93\xF2\x2C\x64\x0A" "\x28\xCC\x45\x03\x04"
-    "\x28\xCF\x06\x03\x00\x37" "\x28\x81\x8C\x71\x02\x02\x04" "\x2A" "\x2A\x81\x1C" "\x2A\x81\x1C\xCF\x55"
-    "\x2A\x81\x1C\xCF\x55\x01" "\x2A\x81\x1C\xCF\x55\x01\x68\x01" "\x2A\x81\x1C\xCF\x55\x01\x68\x02"
-    "\x2A\x81\x1C\xCF\x55\x01\x68\x03" "\x2A\x81\x1C\xCF\x55\x01\x68\x04" "\x2A\x81\x1C\xCF\x55\x01\x68\x05"
-    "\x2A\x81\x1C\xCF\x55\x01\x68\x06" "\x2A\x81\x1C\xCF\x55\x01\x68\x07" "\x2A\x81\x1C\xCF\x55\x01\x68\x08"
-    "\x2A\x81\x1C\xCF\x55\x01\x68\x09", "\x2A\x81\x1C\xCF\x55\x01\x68\x0A" "\x2A\x81\x1C\xCF\x55\x01\x82\x2D"
-    "\x2A\x81\x1C\xCF\x55\x01\x83\x11" "\x2A\x81\x1C\xCF\x55\x01\x83\x11\x03\x01" "\x2A\x81\x1C\xCF\x55\x01\x83\x75"
-    "\x2A\x81\x1C\xCF\x55\x01\x83\x78" "\x2A\x83\x08\x8C\x9A\x4B\x3D\x01\x01\x01\x02"
+    "\x09\x92\x26\x89\x93\xF2\x2C\x64\x04\x09" "\x09\x92\x26\x89\x93\xF2\x2C\x64\x0A" "\x28\xC4\x62\x01\x01\x02"
+    "\x28\xC4\x62\x01\x01\x02\x00" "\x28\xC4\x62\x01\x01\x02\x00\x00" "\x28\xC4\x62\x01\x01\x02\x00\x00\x01"
+    "\x28\xC4\x62\x01\x01\x02\x01" "\x28\xC4\x62\x01\x01\x02\x01\x01" "\x28\xC4\x62\x01\x01\x02\x01\x01\x01"
+    "\x28\xC4\x62\x01\x01\x02\x01\x01\x02" "\x28\xC4\x62\x01\x01\x02\x01\x01\x03" "\x28\xC4\x62\x01\x01\x02\x01\x01\x04"
+    "\x28\xC4\x62\x01\x01\x02\x01\x01\x05" "\x28\xC4\x62\x01\x01\x02\x01\x01\x06"
+    "\x28\xC4\x62\x01\x01\x02\x01\x01\x06\x01" "\x28\xC4\x62\x01\x01\x02\x01\x01\x06\x01\x01"
+    "\x28\xC4\x62\x01\x01\x02\x01\x01\x06\x01\x02" "\x28\xC4\x62\x01\x01\x02\x01\x01\x06\x01\x03"
+    "\x28\xC4\x62\x01\x01\x02\x01\x01\x06\x01\x04" "\x28\xC4\x62\x01\x01\x02\x01\x02"
+    "\x28\xC4\x62\x01\x01\x02\x01\x02\x01" "\x28\xC4\x62\x01\x01\x02\x01\x02\x02" "\x28\xC4\x62\x01\x01\x02\x01\x02\x03"
+    "\x28\xC4\x62\x01\x01\x02\x01\x02\x04" "\x28\xC4\x62\x01\x01\x02\x01\x02\x05" "\x28\xC4\x62\x01\x01\x02\x01\x02\x06"
+    "\x28\xC4\x62\x01\x01\x02\x01\x02\x07" "\x28\xC4\x62\x01\x01\x02\x01\x03" "\x28\xC4\x62\x01\x01\x02\x01\x03\x01"
+    "\x28\xC4\x62\x01\x01\x02\x01\x03\x02" "\x28\xC4\x62\x01\x01\x02\x01\x03\x03" "\x28\xC4\x62\x01\x01\x02\x01\x03\x04"
+    "\x28\xC4\x62\x01\x01\x02\x01\x03\x05" "\x28\xC4\x62\x01\x01\x02\x01\x03\x06" "\x28\xC4\x62\x01\x01\x02\x01\x03\x07"
+    "\x28\xC4\x62\x01\x01\x02\x01\x03\x07\x01" "\x28\xC4\x62\x01\x01\x02\x01\x03\x07\x01\x01"
+    "\x28\xC4\x62\x01\x01\x02\x01\x03\x07\x01\x02" "\x28\xC4\x62\x01\x01\x02\x01\x03\x07\x01\x03"
+    "\x28\xC4\x62\x01\x01\x02\x01\x03\x07\x01\x04" "\x28\xC4\x62\x01\x01\x02\x01\x03\x08"
+    "\x28\xC4\x62\x01\x01\x02\x01\x03\x08\x01" "\x28\xC4\x62\x01\x01\x02\x01\x03\x08\x01\x01"
+    "\x28\xC4\x62\x01\x01\x02\x01\x03\x08\x01\x02", "\x28\xC4\x62\x01\x01\x02\x01\x03\x08\x01\x03"
+    "\x28\xC4\x62\x01\x01\x02\x01\x03\x08\x01\x04" "\x28\xC4\x62\x01\x01\x02\x01\x03\x08\x01\x05"
+    "\x28\xC4\x62\x01\x01\x02\x01\x03\x08\x01\x06" "\x28\xC4\x62\x01\x01\x02\x01\x04"
+    "\x28\xC4\x62\x01\x01\x02\x01\x04\x01" "\x28\xC4\x62\x01\x01\x02\x01\x04\x01\x01"
+    "\x28\xC4\x62\x01\x01\x02\x01\x04\x01\x01\x01" "\x28\xC4\x62\x01\x01\x02\x01\x04\x01\x01\x02"
+    "\x28\xC4\x62\x01\x01\x02\x01\x04\x01\x01\x03" "\x28\xC4\x62\x01\x01\x02\x01\x04\x01\x01\x04"
+    "\x28\xC4\x62\x01\x01\x02\x01\x04\x01\x01\x05" "\x28\xC4\x62\x01\x01\x02\x01\x04\x01\x01\x06"
+    "\x28\xC4\x62\x01\x01\x02\x01\x04\x01\x01\x07" "\x28\xC4\x62\x01\x01\x02\x01\x04\x01\x01\x08"
+    "\x28\xC4\x62\x01\x01\x02\x01\x04\x01\x01\x09" "\x28\xC4\x62\x01\x01\x02\x01\x04\x01\x01\x0A"
+    "\x28\xC4\x62\x01\x01\x02\x01\x04\x01\x01\x0B" "\x28\xC4\x62\x01\x01\x02\x01\x04\x01\x01\x0C"
+    "\x28\xC4\x62\x01\x01\x02\x01\x04\x02" "\x28\xC4\x62\x01\x01\x02\x01\x04\x02\x01"
+    "\x28\xC4\x62\x01\x01\x02\x01\x04\x02\x01\x01" "\x28\xC4\x62\x01\x01\x02\x01\x04\x02\x01\x02"
+    "\x28\xC4\x62\x01\x01\x02\x01\x04\x02\x01\x03" "\x28\xC4\x62\x01\x01\x02\x01\x04\x02\x01\x04"
+    "\x28\xC4\x62\x01\x01\x02\x01\x04\x02\x01\x05" "\x28\xC4\x62\x01\x01\x02\x01\x05" "\x28\xCC\x45\x03\x04"
+    "\x28\xCF\x06\x03\x00\x37" "\x28\x81\x8C\x71\x02" "\x28\x81\x8C\x71\x02\x02\x04" "\x2A" "\x2A\x81\x1C"
+    "\x2A\x81\x1C\xCF\x55" "\x2A\x81\x1C\xCF\x55\x01" "\x2A\x81\x1C\xCF\x55\x01\x68\x01"
+    "\x2A\x81\x1C\xCF\x55\x01\x68\x02" "\x2A\x81\x1C\xCF\x55\x01\x68\x03" "\x2A\x81\x1C\xCF\x55\x01\x68\x04"
+    "\x2A\x81\x1C\xCF\x55\x01\x68\x05" "\x2A\x81\x1C\xCF\x55\x01\x68\x06" "\x2A\x81\x1C\xCF\x55\x01\x68\x07"
+    "\x2A\x81\x1C\xCF\x55\x01\x68\x08" "\x2A\x81\x1C\xCF\x55\x01\x68\x09" "\x2A\x81\x1C\xCF\x55\x01\x68\x0A"
+    "\x2A\x81\x1C\xCF\x55\x01\x82\x2D" "\x2A\x81\x1C\xCF\x55\x01\x82\x2D\x65" "\x2A\x81\x1C\xCF\x55\x01\x83\x11"
+    "\x2A\x81\x1C\xCF\x55\x01\x83\x11\x03\x01" "\x2A\x81\x1C\xCF\x55\x01\x83\x75" "\x2A\x81\x1C\xCF\x55\x01\x83\x78"
+    "\x2A\x81\x7A\x01\x81\x5F\x65\x82\x00\x01" "\x2A\x83\x08\x8C\x9A\x4B\x3D\x01\x01\x01\x02"
     "\x2A\x83\x08\x8C\x9A\x4B\x3D\x01\x01\x01\x03" "\x2A\x83\x08\x8C\x9A\x4B\x3D\x01\x01\x01\x04"
-    "\x2A\x83\x08\x8C\x9A\x4B\x3D\x01\x01\x03\x02" "\x2A\x83\x08\x8C\x9A\x4B\x3D\x01\x01\x03\x03"
+    "\x2A\x83\x08\x8C\x9A\x4B\x3D\x01\x01\x03\x02", "\x2A\x83\x08\x8C\x9A\x4B\x3D\x01\x01\x03\x03"
     "\x2A\x83\x08\x8C\x9A\x4B\x3D\x01\x01\x03\x04" "\x2A\x83\x1A\x8C\x9A\x44" "\x2A\x83\x1A\x8C\x9A\x44\x01\x03"
     "\x2A\x83\x1A\x8C\x9A\x44\x01\x04" "\x2A\x83\x1A\x8C\x9A\x44\x01\x05" "\x2A\x83\x1A\x8C\x9A\x44\x01\x06"
     "\x2A\x83\x1A\x8C\x9A\x6E\x01\x01\x01" "\x2A\x83\x1A\x8C\x9A\x6E\x01\x01\x02" "\x2A\x83\x1A\x8C\x9A\x6E\x01\x01\x03"
@@ -64,11 +106,11 @@ CONST_OID_TABLE const uint8_t const_oid_common_bytes[][512] = {
     "\x2A\x85\x03\x02\x02\x17" "\x2A\x85\x03\x02\x02\x1E\x00" "\x2A\x85\x03\x02\x02\x1E\x01"
     "\x2A\x85\x03\x02\x02\x1F\x00" "\x2A\x85\x03\x02\x02\x1F\x01" "\x2A\x85\x03\x02\x02\x1F\x02"
     "\x2A\x85\x03\x02\x02\x1F\x03" "\x2A\x85\x03\x02\x02\x1F\x04" "\x2A\x85\x03\x02\x02\x1F\x05"
-    "\x2A\x85\x03\x02\x02\x1F\x06", "\x2A\x85\x03\x02\x02\x1F\x07" "\x2A\x85\x03\x02\x02\x20\x00"
+    "\x2A\x85\x03\x02\x02\x1F\x06" "\x2A\x85\x03\x02\x02\x1F\x07" "\x2A\x85\x03\x02\x02\x20\x00"
     "\x2A\x85\x03\x02\x02\x20\x02" "\x2A\x85\x03\x02\x02\x20\x03" "\x2A\x85\x03\x02\x02\x20\x04"
     "\x2A\x85\x03\x02\x02\x20\x05" "\x2A\x85\x03\x02\x02\x21\x01" "\x2A\x85\x03\x02\x02\x21\x02"
     "\x2A\x85\x03\x02\x02\x21\x03" "\x2A\x85\x03\x02\x02\x23\x00" "\x2A\x85\x03\x02\x02\x23\x01"
-    "\x2A\x85\x03\x02\x02\x23\x02" "\x2A\x85\x03\x02\x02\x23\x03" "\x2A\x85\x03\x02\x02\x24\x00"
+    "\x2A\x85\x03\x02\x02\x23\x02" "\x2A\x85\x03\x02\x02\x23\x03", "\x2A\x85\x03\x02\x02\x24\x00"
     "\x2A\x85\x03\x02\x02\x24\x01" "\x2A\x85\x03\x02\x02\x62" "\x2A\x85\x03\x02\x02\x63" "\x2A\x85\x03\x02\x09"
     "\x2A\x85\x03\x02\x09\x01\x03\x03" "\x2A\x85\x03\x02\x09\x01\x03\x04" "\x2A\x85\x03\x02\x09\x01\x05\x03"
     "\x2A\x85\x03\x02\x09\x01\x05\x04" "\x2A\x85\x03\x02\x09\x01\x06\x01" "\x2A\x85\x03\x02\x09\x01\x08\x01"
@@ -85,11 +127,13 @@ CONST_OID_TABLE const uint8_t const_oid_common_bytes[][512] = {
     "\x2A\x85\x03\x07\x01\x02\x01" "\x2A\x85\x03\x07\x01\x02\x01\x01" "\x2A\x85\x03\x07\x01\x02\x01\x01\x01"
     "\x2A\x85\x03\x07\x01\x02\x01\x01\x02" "\x2A\x85\x03\x07\x01\x02\x01\x01\x03" "\x2A\x85\x03\x07\x01\x02\x01\x01\x04"
     "\x2A\x85\x03\x07\x01\x02\x01\x02" "\x2A\x85\x03\x07\x01\x02\x01\x02\x00" "\x2A\x85\x03\x07\x01\x02\x01\x02\x01"
-    "\x2A\x85\x03\x07\x01\x02\x01\x02\x02" "\x2A\x85\x03\x07\x01\x02\x01\x02\x03", "\x2A\x85\x03\x07\x01\x02\x02"
+    "\x2A\x85\x03\x07\x01\x02\x01\x02\x02" "\x2A\x85\x03\x07\x01\x02\x01\x02\x03" "\x2A\x85\x03\x07\x01\x02\x02"
     "\x2A\x85\x03\x07\x01\x02\x05" "\x2A\x85\x03\x07\x01\x02\x05\x01" "\x2A\x85\x03\x07\x01\x02\x05\x01\x01"
     "\x2A\x85\x03\x64\x01" "\x2A\x85\x03\x64\x03" "\x2A\x85\x03\x64\x05" "\x2A\x85\x03\x64\x6F" "\x2A\x85\x03\x64\x70"
     "\x2A\x85\x03\x64\x71" "\x2A\x85\x03\x64\x71\x01" "\x2A\x85\x03\x64\x71\x02" "\x2A\x85\x03\x64\x71\x03"
-    "\x2A\x85\x03\x64\x71\x04" "\x2A\x85\x03\x64\x71\x05" "\x2A\x85\x03\x64\x71\x06" "\x2A\x86\x24"
+    "\x2A\x85\x03\x64\x71\x04" "\x2A\x85\x03\x64\x71\x05", "\x2A\x85\x03\x64\x71\x06" "\x2A\x85\x70\x81\x42\x0A\x02\x01"
+    "\x2A\x85\x70\x81\x42\x0A\x02\x02" "\x2A\x85\x70\x81\x42\x0A\x02\x04" "\x2A\x85\x70\x81\x42\x0A\x03"
+    "\x2A\x85\x70\x81\x49" "\x2A\x85\x70\x81\x49\x05" "\x2A\x85\x70\x81\x49\x05\x01" "\x2A\x86\x24"
     "\x2A\x86\x24\x02\x01\x01\x01" "\x2A\x86\x24\x02\x01\x01\x01\x01\x01\x01"
     "\x2A\x86\x24\x02\x01\x01\x01\x01\x01\x01\x02" "\x2A\x86\x24\x02\x01\x01\x01\x01\x01\x01\x03"
     "\x2A\x86\x24\x02\x01\x01\x01\x01\x01\x01\x05" "\x2A\x86\x24\x02\x01\x01\x01\x01\x01\x02"
@@ -102,55 +146,60 @@ CONST_OID_TABLE const uint8_t const_oid_common_bytes[][512] = {
     "\x2A\x86\x24\x02\x01\x01\x01\x01\x03\x01\x01\x02\x09" "\x2A\x86\x3A\x00\x01\x81\xCC\x93\x2A\x02\x03" "\x2A\x86\x48"
     "\x2A\x86\x48\xCE\x38" "\x2A\x86\x48\xCE\x38\x02\x01" "\x2A\x86\x48\xCE\x38\x02\x02" "\x2A\x86\x48\xCE\x38\x02\x03"
     "\x2A\x86\x48\xCE\x38\x04" "\x2A\x86\x48\xCE\x38\x04\x01" "\x2A\x86\x48\xCE\x38\x04\x03" "\x2A\x86\x48\xCE\x3D"
-    "\x2A\x86\x48\xCE\x3D\x01\x01" "\x2A\x86\x48\xCE\x3D\x01\x02" "\x2A\x86\x48\xCE\x3D\x01\x02\x03"
-    "\x2A\x86\x48\xCE\x3D\x01\x02\x03\x01" "\x2A\x86\x48\xCE\x3D\x01\x02\x03\x02" "\x2A\x86\x48\xCE\x3D\x01\x02\x03\x03"
-    "\x2A\x86\x48\xCE\x3D\x02\x01" "\x2A\x86\x48\xCE\x3D\x03\x00\x01" "\x2A\x86\x48\xCE\x3D\x03\x00\x02"
+    "\x2A\x86\x48\xCE\x3D\x01" "\x2A\x86\x48\xCE\x3D\x01\x01" "\x2A\x86\x48\xCE\x3D\x01\x02"
+    "\x2A\x86\x48\xCE\x3D\x01\x02\x03" "\x2A\x86\x48\xCE\x3D\x01\x02\x03\x01" "\x2A\x86\x48\xCE\x3D\x01\x02\x03\x02"
+    "\x2A\x86\x48\xCE\x3D\x01\x02\x03\x03" "\x2A\x86\x48\xCE\x3D\x02" "\x2A\x86\x48\xCE\x3D\x02\x01"
+    "\x2A\x86\x48\xCE\x3D\x03\x00" "\x2A\x86\x48\xCE\x3D\x03\x00\x01" "\x2A\x86\x48\xCE\x3D\x03\x00\x02"
     "\x2A\x86\x48\xCE\x3D\x03\x00\x03" "\x2A\x86\x48\xCE\x3D\x03\x00\x04" "\x2A\x86\x48\xCE\x3D\x03\x00\x05"
-    "\x2A\x86\x48\xCE\x3D\x03\x00\x06" "\x2A\x86\x48\xCE\x3D\x03\x00\x07" "\x2A\x86\x48\xCE\x3D\x03\x00\x08",
-    "\x2A\x86\x48\xCE\x3D\x03\x00\x09" "\x2A\x86\x48\xCE\x3D\x03\x00\x0A" "\x2A\x86\x48\xCE\x3D\x03\x00\x0B"
+    "\x2A\x86\x48\xCE\x3D\x03\x00\x06" "\x2A\x86\x48\xCE\x3D\x03\x00\x07" "\x2A\x86\x48\xCE\x3D\x03\x00\x08"
+    "\x2A\x86\x48\xCE\x3D\x03\x00\x09" "\x2A\x86\x48\xCE\x3D\x03\x00\x0A", "\x2A\x86\x48\xCE\x3D\x03\x00\x0B"
     "\x2A\x86\x48\xCE\x3D\x03\x00\x0C" "\x2A\x86\x48\xCE\x3D\x03\x00\x0D" "\x2A\x86\x48\xCE\x3D\x03\x00\x0E"
     "\x2A\x86\x48\xCE\x3D\x03\x00\x0F" "\x2A\x86\x48\xCE\x3D\x03\x00\x10" "\x2A\x86\x48\xCE\x3D\x03\x00\x11"
     "\x2A\x86\x48\xCE\x3D\x03\x00\x12" "\x2A\x86\x48\xCE\x3D\x03\x00\x13" "\x2A\x86\x48\xCE\x3D\x03\x00\x14"
-    "\x2A\x86\x48\xCE\x3D\x03\x01\x01" "\x2A\x86\x48\xCE\x3D\x03\x01\x02" "\x2A\x86\x48\xCE\x3D\x03\x01\x03"
-    "\x2A\x86\x48\xCE\x3D\x03\x01\x04" "\x2A\x86\x48\xCE\x3D\x03\x01\x05" "\x2A\x86\x48\xCE\x3D\x03\x01\x06"
-    "\x2A\x86\x48\xCE\x3D\x03\x01\x07" "\x2A\x86\x48\xCE\x3D\x04\x01" "\x2A\x86\x48\xCE\x3D\x04\x02"
-    "\x2A\x86\x48\xCE\x3D\x04\x03" "\x2A\x86\x48\xCE\x3D\x04\x03\x01" "\x2A\x86\x48\xCE\x3D\x04\x03\x02"
-    "\x2A\x86\x48\xCE\x3D\x04\x03\x03" "\x2A\x86\x48\xCE\x3D\x04\x03\x04" "\x2A\x86\x48\xCE\x3E\x02\x01"
-    "\x2A\x86\x48\x82\xF7\x12\x01\x02\x02" "\x2A\x86\x48\x86\xF6\x7D\x07\x42\x0A" "\x2A\x86\x48\x86\xF6\x7D\x07\x42\x0C"
-    "\x2A\x86\x48\x86\xF6\x7D\x07\x42\x0D" "\x2A\x86\x48\x86\xF6\x7D\x07\x42\x1E" "\x2A\x86\x48\x86\xF7\x0D"
-    "\x2A\x86\x48\x86\xF7\x0D\x01" "\x2A\x86\x48\x86\xF7\x0D\x01\x01" "\x2A\x86\x48\x86\xF7\x0D\x01\x01\x01"
-    "\x2A\x86\x48\x86\xF7\x0D\x01\x01\x02" "\x2A\x86\x48\x86\xF7\x0D\x01\x01\x03" "\x2A\x86\x48\x86\xF7\x0D\x01\x01\x04"
-    "\x2A\x86\x48\x86\xF7\x0D\x01\x01\x05" "\x2A\x86\x48\x86\xF7\x0D\x01\x01\x06" "\x2A\x86\x48\x86\xF7\x0D\x01\x01\x07"
-    "\x2A\x86\x48\x86\xF7\x0D\x01\x01\x08" "\x2A\x86\x48\x86\xF7\x0D\x01\x01\x09" "\x2A\x86\x48\x86\xF7\x0D\x01\x01\x0A"
-    "\x2A\x86\x48\x86\xF7\x0D\x01\x01\x0B" "\x2A\x86\x48\x86\xF7\x0D\x01\x01\x0C" "\x2A\x86\x48\x86\xF7\x0D\x01\x01\x0D"
-    "\x2A\x86\x48\x86\xF7\x0D\x01\x01\x0E" "\x2A\x86\x48\x86\xF7\x0D\x01\x01\x0F" "\x2A\x86\x48\x86\xF7\x0D\x01\x01\x10"
-    "\x2A\x86\x48\x86\xF7\x0D\x01\x03" "\x2A\x86\x48\x86\xF7\x0D\x01\x03\x01" "\x2A\x86\x48\x86\xF7\x0D\x01\x05"
-    "\x2A\x86\x48\x86\xF7\x0D\x01\x05\x01" "\x2A\x86\x48\x86\xF7\x0D\x01\x05\x03" "\x2A\x86\x48\x86\xF7\x0D\x01\x05\x04"
-    "\x2A\x86\x48\x86\xF7\x0D\x01\x05\x06" "\x2A\x86\x48\x86\xF7\x0D\x01\x05\x0A"
-    "\x2A\x86\x48\x86\xF7\x0D\x01\x05\x0B", "\x2A\x86\x48\x86\xF7\x0D\x01\x05\x0C"
-    "\x2A\x86\x48\x86\xF7\x0D\x01\x05\x0D" "\x2A\x86\x48\x86\xF7\x0D\x01\x05\x0E" "\x2A\x86\x48\x86\xF7\x0D\x01\x07"
-    "\x2A\x86\x48\x86\xF7\x0D\x01\x07\x01" "\x2A\x86\x48\x86\xF7\x0D\x01\x07\x02" "\x2A\x86\x48\x86\xF7\x0D\x01\x07\x03"
-    "\x2A\x86\x48\x86\xF7\x0D\x01\x07\x04" "\x2A\x86\x48\x86\xF7\x0D\x01\x07\x05" "\x2A\x86\x48\x86\xF7\x0D\x01\x07\x06"
-    "\x2A\x86\x48\x86\xF7\x0D\x01\x09" "\x2A\x86\x48\x86\xF7\x0D\x01\x09\x01" "\x2A\x86\x48\x86\xF7\x0D\x01\x09\x02"
-    "\x2A\x86\x48\x86\xF7\x0D\x01\x09\x03" "\x2A\x86\x48\x86\xF7\x0D\x01\x09\x04" "\x2A\x86\x48\x86\xF7\x0D\x01\x09\x05"
-    "\x2A\x86\x48\x86\xF7\x0D\x01\x09\x06" "\x2A\x86\x48\x86\xF7\x0D\x01\x09\x07" "\x2A\x86\x48\x86\xF7\x0D\x01\x09\x08"
-    "\x2A\x86\x48\x86\xF7\x0D\x01\x09\x09" "\x2A\x86\x48\x86\xF7\x0D\x01\x09\x0A" "\x2A\x86\x48\x86\xF7\x0D\x01\x09\x0E"
-    "\x2A\x86\x48\x86\xF7\x0D\x01\x09\x0F" "\x2A\x86\x48\x86\xF7\x0D\x01\x09\x10"
+    "\x2A\x86\x48\xCE\x3D\x03\x01" "\x2A\x86\x48\xCE\x3D\x03\x01\x01" "\x2A\x86\x48\xCE\x3D\x03\x01\x02"
+    "\x2A\x86\x48\xCE\x3D\x03\x01\x03" "\x2A\x86\x48\xCE\x3D\x03\x01\x04" "\x2A\x86\x48\xCE\x3D\x03\x01\x05"
+    "\x2A\x86\x48\xCE\x3D\x03\x01\x06" "\x2A\x86\x48\xCE\x3D\x03\x01\x07" "\x2A\x86\x48\xCE\x3D\x04"
+    "\x2A\x86\x48\xCE\x3D\x04\x01" "\x2A\x86\x48\xCE\x3D\x04\x02" "\x2A\x86\x48\xCE\x3D\x04\x03"
+    "\x2A\x86\x48\xCE\x3D\x04\x03\x01" "\x2A\x86\x48\xCE\x3D\x04\x03\x02" "\x2A\x86\x48\xCE\x3D\x04\x03\x03"
+    "\x2A\x86\x48\xCE\x3D\x04\x03\x04" "\x2A\x86\x48\xCE\x3E\x02\x01" "\x2A\x86\x48\x82\xF7\x12\x01\x02\x02"
+    "\x2A\x86\x48\x86\xF6\x7D\x07\x41\x00" "\x2A\x86\x48\x86\xF6\x7D\x07\x42\x0A" "\x2A\x86\x48\x86\xF6\x7D\x07\x42\x0C"
+    "\x2A\x86\x48\x86\xF6\x7D\x07\x42\x0D" "\x2A\x86\x48\x86\xF6\x7D\x07\x42\x1E" "\x2A\x86\x48\x86\xF6\x7D\x07\x44\x1D"
+    "\x2A\x86\x48\x86\xF7\x0D" "\x2A\x86\x48\x86\xF7\x0D\x01" "\x2A\x86\x48\x86\xF7\x0D\x01\x01"
+    "\x2A\x86\x48\x86\xF7\x0D\x01\x01\x01" "\x2A\x86\x48\x86\xF7\x0D\x01\x01\x02" "\x2A\x86\x48\x86\xF7\x0D\x01\x01\x03"
+    "\x2A\x86\x48\x86\xF7\x0D\x01\x01\x04" "\x2A\x86\x48\x86\xF7\x0D\x01\x01\x05" "\x2A\x86\x48\x86\xF7\x0D\x01\x01\x06"
+    "\x2A\x86\x48\x86\xF7\x0D\x01\x01\x07" "\x2A\x86\x48\x86\xF7\x0D\x01\x01\x08" "\x2A\x86\x48\x86\xF7\x0D\x01\x01\x09"
+    "\x2A\x86\x48\x86\xF7\x0D\x01\x01\x0A" "\x2A\x86\x48\x86\xF7\x0D\x01\x01\x0B" "\x2A\x86\x48\x86\xF7\x0D\x01\x01\x0C"
+    "\x2A\x86\x48\x86\xF7\x0D\x01\x01\x0D" "\x2A\x86\x48\x86\xF7\x0D\x01\x01\x0E" "\x2A\x86\x48\x86\xF7\x0D\x01\x01\x0F"
+    "\x2A\x86\x48\x86\xF7\x0D\x01\x01\x10" "\x2A\x86\x48\x86\xF7\x0D\x01\x03" "\x2A\x86\x48\x86\xF7\x0D\x01\x03\x01"
+    "\x2A\x86\x48\x86\xF7\x0D\x01\x05" "\x2A\x86\x48\x86\xF7\x0D\x01\x05\x01" "\x2A\x86\x48\x86\xF7\x0D\x01\x05\x03"
+    "\x2A\x86\x48\x86\xF7\x0D\x01\x05\x04" "\x2A\x86\x48\x86\xF7\x0D\x01\x05\x06"
+    "\x2A\x86\x48\x86\xF7\x0D\x01\x05\x0A", "\x2A\x86\x48\x86\xF7\x0D\x01\x05\x0B"
+    "\x2A\x86\x48\x86\xF7\x0D\x01\x05\x0C" "\x2A\x86\x48\x86\xF7\x0D\x01\x05\x0D" "\x2A\x86\x48\x86\xF7\x0D\x01\x05\x0E"
+    "\x2A\x86\x48\x86\xF7\x0D\x01\x07" "\x2A\x86\x48\x86\xF7\x0D\x01\x07\x01" "\x2A\x86\x48\x86\xF7\x0D\x01\x07\x02"
+    "\x2A\x86\x48\x86\xF7\x0D\x01\x07\x03" "\x2A\x86\x48\x86\xF7\x0D\x01\x07\x04" "\x2A\x86\x48\x86\xF7\x0D\x01\x07\x05"
+    "\x2A\x86\x48\x86\xF7\x0D\x01\x07\x06" "\x2A\x86\x48\x86\xF7\x0D\x01\x09" "\x2A\x86\x48\x86\xF7\x0D\x01\x09\x01"
+    "\x2A\x86\x48\x86\xF7\x0D\x01\x09\x02" "\x2A\x86\x48\x86\xF7\x0D\x01\x09\x03" "\x2A\x86\x48\x86\xF7\x0D\x01\x09\x04"
+    "\x2A\x86\x48\x86\xF7\x0D\x01\x09\x05" "\x2A\x86\x48\x86\xF7\x0D\x01\x09\x06" "\x2A\x86\x48\x86\xF7\x0D\x01\x09\x07"
+    "\x2A\x86\x48\x86\xF7\x0D\x01\x09\x08" "\x2A\x86\x48\x86\xF7\x0D\x01\x09\x09" "\x2A\x86\x48\x86\xF7\x0D\x01\x09\x0A"
+    "\x2A\x86\x48\x86\xF7\x0D\x01\x09\x0E" "\x2A\x86\x48\x86\xF7\x0D\x01\x09\x0F" "\x2A\x86\x48\x86\xF7\x0D\x01\x09\x10"
     "\x2A\x86\x48\x86\xF7\x0D\x01\x09\x10\x00" "\x2A\x86\x48\x86\xF7\x0D\x01\x09\x10\x00\x01"
     "\x2A\x86\x48\x86\xF7\x0D\x01\x09\x10\x00\x02" "\x2A\x86\x48\x86\xF7\x0D\x01\x09\x10\x00\x03"
     "\x2A\x86\x48\x86\xF7\x0D\x01\x09\x10\x00\x04" "\x2A\x86\x48\x86\xF7\x0D\x01\x09\x10\x00\x05"
     "\x2A\x86\x48\x86\xF7\x0D\x01\x09\x10\x00\x06" "\x2A\x86\x48\x86\xF7\x0D\x01\x09\x10\x00\x07"
     "\x2A\x86\x48\x86\xF7\x0D\x01\x09\x10\x00\x08" "\x2A\x86\x48\x86\xF7\x0D\x01\x09\x10\x01"
-    "\x2A\x86\x48\x86\xF7\x0D\x01\x09\x10\x01\x01" "\x2A\x86\x48\x86\xF7\x0D\x01\x09\x10\x01\x02"
-    "\x2A\x86\x48\x86\xF7\x0D\x01\x09\x10\x01\x03" "\x2A\x86\x48\x86\xF7\x0D\x01\x09\x10\x01\x04"
-    "\x2A\x86\x48\x86\xF7\x0D\x01\x09\x10\x01\x05" "\x2A\x86\x48\x86\xF7\x0D\x01\x09\x10\x01\x06"
-    "\x2A\x86\x48\x86\xF7\x0D\x01\x09\x10\x01\x07" "\x2A\x86\x48\x86\xF7\x0D\x01\x09\x10\x01\x08"
-    "\x2A\x86\x48\x86\xF7\x0D\x01\x09\x10\x01\x09" "\x2A\x86\x48\x86\xF7\x0D\x01\x09\x10\x01\x10"
-    "\x2A\x86\x48\x86\xF7\x0D\x01\x09\x10\x01\x13" "\x2A\x86\x48\x86\xF7\x0D\x01\x09\x10\x01\x17"
-    "\x2A\x86\x48\x86\xF7\x0D\x01\x09\x10\x01\x18" "\x2A\x86\x48\x86\xF7\x0D\x01\x09\x10\x01\x1A"
-    "\x2A\x86\x48\x86\xF7\x0D\x01\x09\x10\x01\x1B" "\x2A\x86\x48\x86\xF7\x0D\x01\x09\x10\x01\x1C"
-    "\x2A\x86\x48\x86\xF7\x0D\x01\x09\x10\x01\x1D", "\x2A\x86\x48\x86\xF7\x0D\x01\x09\x10\x01\x22"
-    "\x2A\x86\x48\x86\xF7\x0D\x01\x09\x10\x01\x23" "\x2A\x86\x48\x86\xF7\x0D\x01\x09\x10\x01\x24"
+    "\x2A\x86\x48\x86\xF7\x0D\x01\x09\x10\x01\x00" "\x2A\x86\x48\x86\xF7\x0D\x01\x09\x10\x01\x01"
+    "\x2A\x86\x48\x86\xF7\x0D\x01\x09\x10\x01\x02" "\x2A\x86\x48\x86\xF7\x0D\x01\x09\x10\x01\x03"
+    "\x2A\x86\x48\x86\xF7\x0D\x01\x09\x10\x01\x04" "\x2A\x86\x48\x86\xF7\x0D\x01\x09\x10\x01\x05"
+    "\x2A\x86\x48\x86\xF7\x0D\x01\x09\x10\x01\x06" "\x2A\x86\x48\x86\xF7\x0D\x01\x09\x10\x01\x07"
+    "\x2A\x86\x48\x86\xF7\x0D\x01\x09\x10\x01\x08" "\x2A\x86\x48\x86\xF7\x0D\x01\x09\x10\x01\x09"
+    "\x2A\x86\x48\x86\xF7\x0D\x01\x09\x10\x01\x10" "\x2A\x86\x48\x86\xF7\x0D\x01\x09\x10\x01\x13"
+    "\x2A\x86\x48\x86\xF7\x0D\x01\x09\x10\x01\x17" "\x2A\x86\x48\x86\xF7\x0D\x01\x09\x10\x01\x18"
+    "\x2A\x86\x48\x86\xF7\x0D\x01\x09\x10\x01\x1A" "\x2A\x86\x48\x86\xF7\x0D\x01\x09\x10\x01\x1B",
+    "\x2A\x86\x48\x86\xF7\x0D\x01\x09\x10\x01\x1C" "\x2A\x86\x48\x86\xF7\x0D\x01\x09\x10\x01\x1D"
+    "\x2A\x86\x48\x86\xF7\x0D\x01\x09\x10\x01\x1E" "\x2A\x86\x48\x86\xF7\x0D\x01\x09\x10\x01\x1F"
+    "\x2A\x86\x48\x86\xF7\x0D\x01\x09\x10\x01\x22" "\x2A\x86\x48\x86\xF7\x0D\x01\x09\x10\x01\x23"
+    "\x2A\x86\x48\x86\xF7\x0D\x01\x09\x10\x01\x24" "\x2A\x86\x48\x86\xF7\x0D\x01\x09\x10\x01\x25"
+    "\x2A\x86\x48\x86\xF7\x0D\x01\x09\x10\x01\x26" "\x2A\x86\x48\x86\xF7\x0D\x01\x09\x10\x01\x27"
     "\x2A\x86\x48\x86\xF7\x0D\x01\x09\x10\x01\x29" "\x2A\x86\x48\x86\xF7\x0D\x01\x09\x10\x01\x2C"
     "\x2A\x86\x48\x86\xF7\x0D\x01\x09\x10\x01\x2D" "\x2A\x86\x48\x86\xF7\x0D\x01\x09\x10\x01\x2F"
     "\x2A\x86\x48\x86\xF7\x0D\x01\x09\x10\x01\x30" "\x2A\x86\x48\x86\xF7\x0D\x01\x09\x10\x01\x31"
@@ -168,48 +217,54 @@ CONST_OID_TABLE const uint8_t const_oid_common_bytes[][512] = {
     "\x2A\x86\x48\x86\xF7\x0D\x01\x09\x10\x02\x14" "\x2A\x86\x48\x86\xF7\x0D\x01\x09\x10\x02\x15"
     "\x2A\x86\x48\x86\xF7\x0D\x01\x09\x10\x02\x16" "\x2A\x86\x48\x86\xF7\x0D\x01\x09\x10\x02\x17"
     "\x2A\x86\x48\x86\xF7\x0D\x01\x09\x10\x02\x18" "\x2A\x86\x48\x86\xF7\x0D\x01\x09\x10\x02\x19"
-    "\x2A\x86\x48\x86\xF7\x0D\x01\x09\x10\x02\x1A" "\x2A\x86\x48\x86\xF7\x0D\x01\x09\x10\x02\x1B"
+    "\x2A\x86\x48\x86\xF7\x0D\x01\x09\x10\x02\x1A" "\x2A\x86\x48\x86\xF7\x0D\x01\x09\x10\x02\x1B",
     "\x2A\x86\x48\x86\xF7\x0D\x01\x09\x10\x02\x1C" "\x2A\x86\x48\x86\xF7\x0D\x01\x09\x10\x02\x1D"
-    "\x2A\x86\x48\x86\xF7\x0D\x01\x09\x10\x02\x2C" "\x2A\x86\x48\x86\xF7\x0D\x01\x09\x10\x02\x2D"
-    "\x2A\x86\x48\x86\xF7\x0D\x01\x09\x10\x02\x2F" "\x2A\x86\x48\x86\xF7\x0D\x01\x09\x10\x02\x30"
-    "\x2A\x86\x48\x86\xF7\x0D\x01\x09\x10\x02\x36", "\x2A\x86\x48\x86\xF7\x0D\x01\x09\x10\x02\x37"
-    "\x2A\x86\x48\x86\xF7\x0D\x01\x09\x10\x02\x38" "\x2A\x86\x48\x86\xF7\x0D\x01\x09\x10\x02\x39"
-    "\x2A\x86\x48\x86\xF7\x0D\x01\x09\x10\x02\x3A" "\x2A\x86\x48\x86\xF7\x0D\x01\x09\x10\x03"
-    "\x2A\x86\x48\x86\xF7\x0D\x01\x09\x10\x03\x01" "\x2A\x86\x48\x86\xF7\x0D\x01\x09\x10\x03\x02"
-    "\x2A\x86\x48\x86\xF7\x0D\x01\x09\x10\x03\x03" "\x2A\x86\x48\x86\xF7\x0D\x01\x09\x10\x03\x04"
-    "\x2A\x86\x48\x86\xF7\x0D\x01\x09\x10\x03\x05" "\x2A\x86\x48\x86\xF7\x0D\x01\x09\x10\x03\x06"
-    "\x2A\x86\x48\x86\xF7\x0D\x01\x09\x10\x03\x07" "\x2A\x86\x48\x86\xF7\x0D\x01\x09\x10\x03\x08"
-    "\x2A\x86\x48\x86\xF7\x0D\x01\x09\x10\x03\x09" "\x2A\x86\x48\x86\xF7\x0D\x01\x09\x10\x03\x0E"
+    "\x2A\x86\x48\x86\xF7\x0D\x01\x09\x10\x02\x29" "\x2A\x86\x48\x86\xF7\x0D\x01\x09\x10\x02\x2C"
+    "\x2A\x86\x48\x86\xF7\x0D\x01\x09\x10\x02\x2D" "\x2A\x86\x48\x86\xF7\x0D\x01\x09\x10\x02\x2F"
+    "\x2A\x86\x48\x86\xF7\x0D\x01\x09\x10\x02\x30" "\x2A\x86\x48\x86\xF7\x0D\x01\x09\x10\x02\x36"
+    "\x2A\x86\x48\x86\xF7\x0D\x01\x09\x10\x02\x37" "\x2A\x86\x48\x86\xF7\x0D\x01\x09\x10\x02\x38"
+    "\x2A\x86\x48\x86\xF7\x0D\x01\x09\x10\x02\x39" "\x2A\x86\x48\x86\xF7\x0D\x01\x09\x10\x02\x3A"
+    "\x2A\x86\x48\x86\xF7\x0D\x01\x09\x10\x03" "\x2A\x86\x48\x86\xF7\x0D\x01\x09\x10\x03\x01"
+    "\x2A\x86\x48\x86\xF7\x0D\x01\x09\x10\x03\x02" "\x2A\x86\x48\x86\xF7\x0D\x01\x09\x10\x03\x03"
+    "\x2A\x86\x48\x86\xF7\x0D\x01\x09\x10\x03\x04" "\x2A\x86\x48\x86\xF7\x0D\x01\x09\x10\x03\x05"
+    "\x2A\x86\x48\x86\xF7\x0D\x01\x09\x10\x03\x06" "\x2A\x86\x48\x86\xF7\x0D\x01\x09\x10\x03\x07"
+    "\x2A\x86\x48\x86\xF7\x0D\x01\x09\x10\x03\x08" "\x2A\x86\x48\x86\xF7\x0D\x01\x09\x10\x03\x09"
+    "\x2A\x86\x48\x86\xF7\x0D\x01\x09\x10\x03\x0D" "\x2A\x86\x48\x86\xF7\x0D\x01\x09\x10\x03\x0E"
     "\x2A\x86\x48\x86\xF7\x0D\x01\x09\x10\x03\x11" "\x2A\x86\x48\x86\xF7\x0D\x01\x09\x10\x03\x12"
-    "\x2A\x86\x48\x86\xF7\x0D\x01\x09\x10\x03\x1C" "\x2A\x86\x48\x86\xF7\x0D\x01\x09\x10\x03\x1D"
-    "\x2A\x86\x48\x86\xF7\x0D\x01\x09\x10\x03\x1E" "\x2A\x86\x48\x86\xF7\x0D\x01\x09\x10\x04"
-    "\x2A\x86\x48\x86\xF7\x0D\x01\x09\x10\x04\x01" "\x2A\x86\x48\x86\xF7\x0D\x01\x09\x10\x05"
-    "\x2A\x86\x48\x86\xF7\x0D\x01\x09\x10\x05\x01" "\x2A\x86\x48\x86\xF7\x0D\x01\x09\x10\x05\x02"
-    "\x2A\x86\x48\x86\xF7\x0D\x01\x09\x10\x06" "\x2A\x86\x48\x86\xF7\x0D\x01\x09\x10\x06\x01"
-    "\x2A\x86\x48\x86\xF7\x0D\x01\x09\x10\x06\x02" "\x2A\x86\x48\x86\xF7\x0D\x01\x09\x10\x06\x03"
-    "\x2A\x86\x48\x86\xF7\x0D\x01\x09\x10\x06\x04" "\x2A\x86\x48\x86\xF7\x0D\x01\x09\x10\x06\x05"
-    "\x2A\x86\x48\x86\xF7\x0D\x01\x09\x10\x06\x06" "\x2A\x86\x48\x86\xF7\x0D\x01\x09\x10\x0D"
-    "\x2A\x86\x48\x86\xF7\x0D\x01\x09\x10\x0D\x03" "\x2A\x86\x48\x86\xF7\x0D\x01\x09\x14"
-    "\x2A\x86\x48\x86\xF7\x0D\x01\x09\x15" "\x2A\x86\x48\x86\xF7\x0D\x01\x09\x16\x01"
-    "\x2A\x86\x48\x86\xF7\x0D\x01\x09\x16\x02" "\x2A\x86\x48\x86\xF7\x0D\x01\x09\x17\x01"
-    "\x2A\x86\x48\x86\xF7\x0D\x01\x09\x34" "\x2A\x86\x48\x86\xF7\x0D\x01\x0C" "\x2A\x86\x48\x86\xF7\x0D\x01\x0C\x01\x01"
-    "\x2A\x86\x48\x86\xF7\x0D\x01\x0C\x01\x02" "\x2A\x86\x48\x86\xF7\x0D\x01\x0C\x01\x03"
-    "\x2A\x86\x48\x86\xF7\x0D\x01\x0C\x01\x04" "\x2A\x86\x48\x86\xF7\x0D\x01\x0C\x01\x05"
-    "\x2A\x86\x48\x86\xF7\x0D\x01\x0C\x01\x06" "\x2A\x86\x48\x86\xF7\x0D\x01\x0C\x0A\x01\x01",
-    "\x2A\x86\x48\x86\xF7\x0D\x01\x0C\x0A\x01\x02" "\x2A\x86\x48\x86\xF7\x0D\x01\x0C\x0A\x01\x03"
-    "\x2A\x86\x48\x86\xF7\x0D\x01\x0C\x0A\x01\x04" "\x2A\x86\x48\x86\xF7\x0D\x01\x0C\x0A\x01\x05"
-    "\x2A\x86\x48\x86\xF7\x0D\x01\x0C\x0A\x01\x06" "\x2A\x86\x48\x86\xF7\x0D\x02\x02" "\x2A\x86\x48\x86\xF7\x0D\x02\x04"
-    "\x2A\x86\x48\x86\xF7\x0D\x02\x05" "\x2A\x86\x48\x86\xF7\x0D\x02\x06" "\x2A\x86\x48\x86\xF7\x0D\x02\x07"
-    "\x2A\x86\x48\x86\xF7\x0D\x02\x08" "\x2A\x86\x48\x86\xF7\x0D\x02\x09" "\x2A\x86\x48\x86\xF7\x0D\x02\x0A"
-    "\x2A\x86\x48\x86\xF7\x0D\x02\x0B" "\x2A\x86\x48\x86\xF7\x0D\x02\x0C" "\x2A\x86\x48\x86\xF7\x0D\x02\x0D"
+    "\x2A\x86\x48\x86\xF7\x0D\x01\x09\x10\x03\x13" "\x2A\x86\x48\x86\xF7\x0D\x01\x09\x10\x03\x14"
+    "\x2A\x86\x48\x86\xF7\x0D\x01\x09\x10\x03\x15" "\x2A\x86\x48\x86\xF7\x0D\x01\x09\x10\x03\x1C"
+    "\x2A\x86\x48\x86\xF7\x0D\x01\x09\x10\x03\x1D" "\x2A\x86\x48\x86\xF7\x0D\x01\x09\x10\x03\x1E"
+    "\x2A\x86\x48\x86\xF7\x0D\x01\x09\x10\x04" "\x2A\x86\x48\x86\xF7\x0D\x01\x09\x10\x04\x01"
+    "\x2A\x86\x48\x86\xF7\x0D\x01\x09\x10\x05" "\x2A\x86\x48\x86\xF7\x0D\x01\x09\x10\x05\x01"
+    "\x2A\x86\x48\x86\xF7\x0D\x01\x09\x10\x05\x02" "\x2A\x86\x48\x86\xF7\x0D\x01\x09\x10\x06"
+    "\x2A\x86\x48\x86\xF7\x0D\x01\x09\x10\x06\x01" "\x2A\x86\x48\x86\xF7\x0D\x01\x09\x10\x06\x02"
+    "\x2A\x86\x48\x86\xF7\x0D\x01\x09\x10\x06\x03" "\x2A\x86\x48\x86\xF7\x0D\x01\x09\x10\x06\x04"
+    "\x2A\x86\x48\x86\xF7\x0D\x01\x09\x10\x06\x05" "\x2A\x86\x48\x86\xF7\x0D\x01\x09\x10\x06\x06"
+    "\x2A\x86\x48\x86\xF7\x0D\x01\x09\x10\x0D" "\x2A\x86\x48\x86\xF7\x0D\x01\x09\x10\x0D\x03",
+    "\x2A\x86\x48\x86\xF7\x0D\x01\x09\x14" "\x2A\x86\x48\x86\xF7\x0D\x01\x09\x15"
+    "\x2A\x86\x48\x86\xF7\x0D\x01\x09\x16\x01" "\x2A\x86\x48\x86\xF7\x0D\x01\x09\x16\x02"
+    "\x2A\x86\x48\x86\xF7\x0D\x01\x09\x17\x01" "\x2A\x86\x48\x86\xF7\x0D\x01\x09\x34" "\x2A\x86\x48\x86\xF7\x0D\x01\x0C"
+    "\x2A\x86\x48\x86\xF7\x0D\x01\x0C\x01\x01" "\x2A\x86\x48\x86\xF7\x0D\x01\x0C\x01\x02"
+    "\x2A\x86\x48\x86\xF7\x0D\x01\x0C\x01\x03" "\x2A\x86\x48\x86\xF7\x0D\x01\x0C\x01\x04"
+    "\x2A\x86\x48\x86\xF7\x0D\x01\x0C\x01\x05" "\x2A\x86\x48\x86\xF7\x0D\x01\x0C\x01\x06"
+    "\x2A\x86\x48\x86\xF7\x0D\x01\x0C\x0A\x01\x01" "\x2A\x86\x48\x86\xF7\x0D\x01\x0C\x0A\x01\x02"
+    "\x2A\x86\x48\x86\xF7\x0D\x01\x0C\x0A\x01\x03" "\x2A\x86\x48\x86\xF7\x0D\x01\x0C\x0A\x01\x04"
+    "\x2A\x86\x48\x86\xF7\x0D\x01\x0C\x0A\x01\x05" "\x2A\x86\x48\x86\xF7\x0D\x01\x0C\x0A\x01\x06"
+    "\x2A\x86\x48\x86\xF7\x0D\x02\x02" "\x2A\x86\x48\x86\xF7\x0D\x02\x04" "\x2A\x86\x48\x86\xF7\x0D\x02\x05"
+    "\x2A\x86\x48\x86\xF7\x0D\x02\x06" "\x2A\x86\x48\x86\xF7\x0D\x02\x07" "\x2A\x86\x48\x86\xF7\x0D\x02\x08"
+    "\x2A\x86\x48\x86\xF7\x0D\x02\x09" "\x2A\x86\x48\x86\xF7\x0D\x02\x0A" "\x2A\x86\x48\x86\xF7\x0D\x02\x0B"
+    "\x2A\x86\x48\x86\xF7\x0D\x02\x0C" "\x2A\x86\x48\x86\xF7\x0D\x02\x0D" "\x2A\x86\x48\x86\xF7\x0D\x03"
     "\x2A\x86\x48\x86\xF7\x0D\x03\x02" "\x2A\x86\x48\x86\xF7\x0D\x03\x04" "\x2A\x86\x48\x86\xF7\x0D\x03\x07"
     "\x2A\x86\x48\x86\xF7\x0D\x03\x08" "\x2A\x86\x48\x86\xF7\x0D\x03\x09" "\x2A\x86\x48\x86\xF7\x0D\x03\x0A"
     "\x2A\x86\x48\x86\xF7\x12\x01\x02" "\x2A\x86\x48\x86\xF7\x12\x01\x02\x01\x01"
     "\x2A\x86\x48\x86\xF7\x12\x01\x02\x01\x02" "\x2A\x86\x48\x86\xF7\x12\x01\x02\x01\x03"
     "\x2A\x86\x48\x86\xF7\x12\x01\x02\x01\x04" "\x2A\x86\x48\x86\xF7\x12\x01\x02\x02"
     "\x2A\x86\x48\x86\xF7\x12\x01\x02\x02\x01" "\x2A\x86\x48\x86\xF7\x12\x01\x02\x02\x06"
-    "\x2A\x86\x48\x86\xF7\x12\x01\x02\x02\x07" "\x2A\x86\x48\x86\xF7\x14\x01\x02\x01"
-    "\x2A\x86\x48\x86\xF7\x14\x01\x02\x02" "\x2A\x86\x48\x86\xF7\x14\x01\x02\x03" "\x2A\x86\x48\x86\xF7\x14\x01\x02\x0E"
+    "\x2A\x86\x48\x86\xF7\x12\x01\x02\x02\x07" "\x2A\x86\x48\x86\xF7\x12\x01\x04\x01\x06\x01"
+    "\x2A\x86\x48\x86\xF7\x12\x01\x04\x01\x06\x02" "\x2A\x86\x48\x86\xF7\x12\x01\x04\x01\x06\x03"
+    "\x2A\x86\x48\x86\xF7\x12\x01\x04\x01\x06\x04" "\x2A\x86\x48\x86\xF7\x12\x01\x04\x01\x06\x05"
+    "\x2A\x86\x48\x86\xF7\x14\x01\x02\x01" "\x2A\x86\x48\x86\xF7\x14\x01\x02\x02"
+    "\x2A\x86\x48\x86\xF7\x14\x01\x02\x03", "\x2A\x86\x48\x86\xF7\x14\x01\x02\x0E"
     "\x2A\x86\x48\x86\xF7\x14\x01\x02\x12" "\x2A\x86\x48\x86\xF7\x14\x01\x02\x13" "\x2A\x86\x48\x86\xF7\x14\x01\x02\x15"
     "\x2A\x86\x48\x86\xF7\x14\x01\x02\x16" "\x2A\x86\x48\x86\xF7\x14\x01\x02\x1A" "\x2A\x86\x48\x86\xF7\x14\x01\x02\x1E"
     "\x2A\x86\x48\x86\xF7\x14\x01\x02\x20" "\x2A\x86\x48\x86\xF7\x14\x01\x02\x21" "\x2A\x86\x48\x86\xF7\x14\x01\x02\x30"
@@ -217,7 +272,7 @@ CONST_OID_TABLE const uint8_t const_oid_common_bytes[][512] = {
     "\x2A\x86\x48\x86\xF7\x14\x01\x02\x73" "\x2A\x86\x48\x86\xF7\x14\x01\x02\x76" "\x2A\x86\x48\x86\xF7\x14\x01\x02\x78"
     "\x2A\x86\x48\x86\xF7\x14\x01\x02\x81\x0D" "\x2A\x86\x48\x86\xF7\x14\x01\x02\x81\x12"
     "\x2A\x86\x48\x86\xF7\x14\x01\x02\x81\x29" "\x2A\x86\x48\x86\xF7\x14\x01\x02\x81\x42"
-    "\x2A\x86\x48\x86\xF7\x14\x01\x02\x81\x52" "\x2A\x86\x48\x86\xF7\x14\x01\x02\x81\x54",
+    "\x2A\x86\x48\x86\xF7\x14\x01\x02\x81\x52" "\x2A\x86\x48\x86\xF7\x14\x01\x02\x81\x54"
     "\x2A\x86\x48\x86\xF7\x14\x01\x02\x81\x62" "\x2A\x86\x48\x86\xF7\x14\x01\x02\x81\x67"
     "\x2A\x86\x48\x86\xF7\x14\x01\x02\x82\x15" "\x2A\x86\x48\x86\xF7\x14\x01\x02\x82\x19"
     "\x2A\x86\x48\x86\xF7\x14\x01\x02\x82\x4E" "\x2A\x86\x48\x86\xF7\x14\x01\x02\x82\x72"
@@ -230,77 +285,90 @@ CONST_OID_TABLE const uint8_t const_oid_common_bytes[][512] = {
     "\x2A\x86\x48\x86\xF7\x14\x01\x04\x37" "\x2A\x86\x48\x86\xF7\x14\x01\x04\x3A" "\x2A\x86\x48\x86\xF7\x14\x01\x04\x3C"
     "\x2A\x86\x48\x86\xF7\x14\x01\x04\x3D" "\x2A\x86\x48\x86\xF7\x14\x01\x04\x3E" "\x2A\x86\x48\x86\xF7\x14\x01\x04\x40"
     "\x2A\x86\x48\x86\xF7\x14\x01\x04\x49" "\x2A\x86\x48\x86\xF7\x14\x01\x04\x4A" "\x2A\x86\x48\x86\xF7\x14\x01\x04\x4E"
-    "\x2A\x86\x48\x86\xF7\x14\x01\x04\x4F" "\x2A\x86\x48\x86\xF7\x14\x01\x04\x56" "\x2A\x86\x48\x86\xF7\x14\x01\x04\x57"
-    "\x2A\x86\x48\x86\xF7\x14\x01\x04\x5A" "\x2A\x86\x48\x86\xF7\x14\x01\x04\x5D" "\x2A\x86\x48\x86\xF7\x14\x01\x04\x5F"
-    "\x2A\x86\x48\x86\xF7\x14\x01\x04\x60" "\x2A\x86\x48\x86\xF7\x14\x01\x04\x62" "\x2A\x86\x48\x86\xF7\x14\x01\x04\x7D"
-    "\x2A\x86\x48\x86\xF7\x14\x01\x04\x81\x04" "\x2A\x86\x48\x86\xF7\x14\x01\x04\x81\x05"
-    "\x2A\x86\x48\x86\xF7\x14\x01\x04\x81\x08" "\x2A\x86\x48\x86\xF7\x14\x01\x04\x81\x0A"
-    "\x2A\x86\x48\x86\xF7\x14\x01\x04\x81\x0B" "\x2A\x86\x48\x86\xF7\x14\x01\x04\x81\x12"
-    "\x2A\x86\x48\x86\xF7\x14\x01\x04\x81\x14" "\x2A\x86\x48\x86\xF7\x14\x01\x04\x81\x16"
-    "\x2A\x86\x48\x86\xF7\x14\x01\x04\x81\x1C" "\x2A\x86\x48\x86\xF7\x14\x01\x04\x81\x1F"
-    "\x2A\x86\x48\x86\xF7\x14\x01\x04\x81\x29" "\x2A\x86\x48\x86\xF7\x14\x01\x04\x81\x5D"
-    "\x2A\x86\x48\x86\xF7\x14\x01\x04\x82\x05" "\x2A\x86\x48\x86\xF7\x14\x01\x04\x82\x2E",
-    "\x2A\x86\x48\x86\xF7\x14\x01\x04\x82\x33" "\x2A\x86\x48\x86\xF7\x14\x01\x04\x82\x3F"
-    "\x2A\x86\x48\x86\xF7\x14\x01\x04\x82\x6B" "\x2A\x86\x48\x86\xF7\x14\x01\x04\x82\x6C"
-    "\x2A\x86\x48\x86\xF7\x14\x01\x04\x82\x6D" "\x2A\x86\x48\x86\xF7\x14\x01\x04\x82\x71"
-    "\x2A\x86\x48\x86\xF7\x14\x01\x04\x82\x77" "\x2A\x86\x48\x86\xF7\x14\x01\x04\x82\x7E"
-    "\x2A\x86\x48\x86\xF7\x14\x01\x04\x83\x1F" "\x2A\x86\x48\x86\xF7\x14\x01\x04\x83\x21"
-    "\x2A\x86\x48\x86\xF7\x14\x01\x04\x83\x56" "\x2A\x86\x48\x86\xF7\x14\x01\x04\x83\x59"
-    "\x2A\x86\x48\x86\xF7\x14\x01\x04\x83\x5A" "\x2A\x86\x48\x86\xF7\x14\x01\x04\x83\x7F"
-    "\x2A\x86\x48\x86\xF7\x14\x01\x04\x84\x00" "\x2A\x86\x48\x86\xF7\x14\x01\x04\x84\x10"
-    "\x2A\x86\x48\x86\xF7\x14\x01\x04\x84\x11" "\x2A\x86\x48\x86\xF7\x14\x01\x04\x84\x61"
-    "\x2A\x86\x48\x86\xF7\x14\x01\x04\x84\x6A" "\x2A\x86\x48\x86\xF7\x14\x01\x04\x84\x6B"
-    "\x2A\x86\x48\x86\xF7\x14\x01\x04\x85\x04" "\x2A\x86\x48\x86\xF7\x14\x01\x04\x85\x06"
-    "\x2A\x86\x48\x86\xF7\x14\x01\x04\x85\x07" "\x2A\x86\x48\x86\xF7\x14\x01\x04\x85\x0C"
-    "\x2A\x86\x48\x86\xF7\x14\x01\x04\x85\x0D" "\x2A\x86\x48\x86\xF7\x14\x01\x04\x85\x0E"
-    "\x2A\x86\x48\x86\xF7\x14\x01\x04\x85\x0F" "\x2A\x86\x48\x86\xF7\x14\x01\x04\x85\x10"
-    "\x2A\x86\x48\x86\xF7\x14\x01\x04\x85\x16" "\x2A\x86\x48\x86\xF7\x14\x01\x04\x85\x22"
-    "\x2A\x86\x48\x86\xF7\x14\x01\x04\x85\x51" "\x2A\x86\x48\x86\xF7\x14\x01\x04\x85\x52"
-    "\x2A\x86\x48\x86\xF7\x14\x01\x04\x85\x6D" "\x2A\x86\x48\x86\xF7\x14\x01\x04\x85\x6E"
-    "\x2A\x86\x48\x86\xF7\x14\x01\x04\x86\x03" "\x2A\x86\x48\x86\xF7\x14\x01\x04\x86\x0D"
-    "\x2A\x86\x48\x86\xF7\x14\x01\x04\x86\x0E" "\x2A\x86\x48\x86\xF7\x14\x01\x04\x86\x22"
-    "\x2A\x86\x48\x86\xF7\x14\x01\x04\x86\x23" "\x2A\x86\x48\x86\xF7\x14\x01\x04\x86\x24"
-    "\x2A\x86\x48\x86\xF7\x14\x01\x04\x86\x25" "\x2A\x86\x48\x86\xF7\x14\x01\x04\x86\x37"
-    "\x2A\x86\x48\x86\xF7\x14\x01\x04\x86\x49" "\x2A\x86\x48\x86\xF7\x14\x01\x04\x86\x63"
-    "\x2A\x86\x48\x86\xF7\x14\x01\x04\x86\x64" "\x2A\x86\x48\x86\xF7\x14\x01\x04\x86\x7A"
-    "\x2A\x86\x48\x86\xF7\x14\x01\x04\x86\x7B" "\x2A\x86\x48\x86\xF7\x14\x01\x04\x86\x7C"
-    "\x2A\x86\x48\x86\xF7\x14\x01\x04\x86\x7E" "\x2A\x86\x48\x86\xF7\x14\x01\x04\x87\x0F",
-    "\x2A\x86\x48\x86\xF7\x14\x01\x04\x87\x10" "\x2A\x86\x48\x86\xF7\x14\x01\x04\x87\x11"
-    "\x2A\x86\x48\x86\xF7\x14\x01\x04\x87\x12" "\x2A\x86\x48\x86\xF7\x14\x01\x04\x87\x14"
-    "\x2A\x86\x48\x86\xF7\x14\x01\x04\x88\x5F" "\x2A\x86\x48\x86\xF7\x14\x01\x04\x8A\x15"
-    "\x2A\x86\x48\x86\xF7\x14\x01\x04\x8A\x17" "\x2A\x86\x48\x86\xF7\x14\x01\x04\x8A\x18"
-    "\x2A\x86\x48\x86\xF7\x14\x01\x04\x8A\x2F" "\x2A\x86\x48\x86\xF7\x14\x01\x04\x8A\x31"
-    "\x2A\x86\x48\x86\xF7\x14\x01\x04\x8A\x35" "\x2A\x86\x48\x86\xF7\x14\x01\x04\x8A\x36"
-    "\x2A\x86\x48\x86\xF7\x14\x01\x04\x8A\x3B" "\x2A\x86\x48\x86\xF7\x14\x01\x04\x8A\x3C"
-    "\x2A\x86\x48\x86\xF7\x14\x01\x04\x8A\x44" "\x2A\x86\x48\x86\xF7\x14\x01\x04\x8A\x45"
-    "\x2A\x86\x48\x86\xF7\x14\x01\x04\x8A\x4F" "\x2A\x86\x48\x86\xF7\x14\x01\x04\x8A\x50"
-    "\x2A\x86\x48\x86\xF7\x14\x01\x04\x8B\x02" "\x2A\x86\x48\x86\xF7\x14\x01\x04\x8B\x03"
-    "\x2A\x86\x48\x86\xF7\x14\x01\x04\x8B\x04" "\x2A\x86\x48\x86\xF7\x14\x01\x04\x8B\x05"
-    "\x2A\x86\x48\x86\xF7\x14\x01\x04\x8B\x0A" "\x2A\x86\x48\x86\xF7\x14\x01\x04\x8B\x15"
-    "\x2A\x86\x48\x86\xF7\x14\x01\x04\x8B\x16" "\x2A\x86\x48\x86\xF7\x14\x01\x04\x8B\x18"
-    "\x2A\x86\x48\x86\xF7\x14\x01\x04\x8B\x19" "\x2A\x86\x48\x86\xF7\x14\x01\x04\x8B\x1A"
-    "\x2A\x86\x48\x86\xF7\x14\x01\x04\x8B\x1C" "\x2A\x86\x48\x86\xF7\x14\x01\x04\x8B\x33"
-    "\x2A\x86\x48\x86\xF7\x14\x01\x04\x8B\x34" "\x2A\x86\x48\x86\xF7\x14\x01\x04\x8D\x0A"
-    "\x2A\x86\x48\x86\xF7\x14\x01\x04\x8D\x20" "\x2A\x86\x48\x86\xF7\x14\x01\x04\x8D\x2B"
-    "\x2A\x86\x48\x86\xF7\x14\x01\x04\x8D\x35" "\x2A\x86\x48\x86\xF7\x14\x01\x04\x8D\x76"
-    "\x2A\x86\x48\x86\xF7\x14\x01\x04\x8D\x7B" "\x2A\x86\x48\x86\xF7\x14\x01\x04\x8E\x2C"
-    "\x2A\x86\x48\x86\xF7\x14\x01\x04\x8E\x49" "\x2A\x86\x48\x86\xF7\x14\x01\x04\x8F\x15"
-    "\x2A\x86\x48\x86\xF7\x14\x01\x04\x8F\x27" "\x2A\x86\x48\x86\xF7\x14\x01\x04\x8F\x28"
-    "\x2A\x86\x48\x86\xF7\x14\x01\x04\x8F\x29" "\x2A\x86\x48\x86\xF7\x14\x01\x04\x8F\x2B"
-    "\x2A\x86\x48\x86\xF7\x14\x01\x04\x8F\x32" "\x2A\x86\x48\x86\xF7\x14\x01\x04\x8F\x38"
-    "\x2A\x86\x48\x86\xF7\x14\x01\x04\x8F\x39" "\x2A\x86\x48\x86\xF7\x14\x01\x04\x8F\x3B"
-    "\x2A\x86\x48\x86\xF7\x14\x01\x04\x8F\x4C" "\x2A\x86\x48\x86\xF7\x14\x01\x04\x8F\x65",
-    "\x2A\x86\x48\x86\xF7\x14\x01\x04\x8F\x66" "\x2A\x86\x48\x86\xF7\x14\x01\x04\x90\x0A"
-    "\x2A\x86\x48\x86\xF7\x14\x01\x05\x04" "\x2A\x86\x48\x86\xF7\x14\x01\x05\x06" "\x2A\x86\x48\x86\xF7\x14\x01\x05\x08"
-    "\x2A\x86\x48\x86\xF7\x14\x01\x05\x09" "\x2A\x86\x48\x86\xF7\x14\x01\x05\x0F" "\x2A\x86\x48\x86\xF7\x14\x01\x05\x11"
-    "\x2A\x86\x48\x86\xF7\x14\x01\x05\x17" "\x2A\x86\x48\x86\xF7\x14\x01\x05\x1F" "\x2A\x86\x48\x86\xF7\x14\x01\x05\x22"
-    "\x2A\x86\x48\x86\xF7\x14\x01\x05\x24" "\x2A\x86\x48\x86\xF7\x14\x01\x05\x43" "\x2A\x86\x48\x86\xF7\x14\x01\x05\x4C"
-    "\x2A\x86\x48\x86\xF7\x14\x01\x05\x60" "\x2A\x86\x48\x86\xF7\x14\x01\x05\x7E"
-    "\x2A\x86\x48\x86\xF7\x14\x01\x05\x81\x1D" "\x2A\x86\x48\x86\xF7\x14\x01\x05\x81\x31"
-    "\x2A\x86\x48\x86\xF7\x14\x01\x05\x81\x32" "\x2A\x86\x48\x86\xF7\x14\x01\x05\x82\x08"
-    "\x2A\x86\x48\x86\xF7\x14\x01\x05\xB6\x58\x2F" "\x2A\x86\x48\x86\xF7\x14\x01\x06\x12\x01\x82\x35"
-    "\x2A\x86\x48\x86\xF7\x14\x01\x06\x12\x01\x82\x53" "\x2A\x86\x48\x86\xF7\x14\x01\x06\x12\x01\x82\x5A" "\x2B"
-    "\x2B\x05\x01\x05\x02" "\x2B\x06" "\x2B\x06\x01" "\x2B\x06\x01\x01" "\x2B\x06\x01\x01\x01\x01\x00"
+    "\x2A\x86\x48\x86\xF7\x14\x01\x04\x4F", "\x2A\x86\x48\x86\xF7\x14\x01\x04\x56"
+    "\x2A\x86\x48\x86\xF7\x14\x01\x04\x57" "\x2A\x86\x48\x86\xF7\x14\x01\x04\x5A" "\x2A\x86\x48\x86\xF7\x14\x01\x04\x5D"
+    "\x2A\x86\x48\x86\xF7\x14\x01\x04\x5F" "\x2A\x86\x48\x86\xF7\x14\x01\x04\x60" "\x2A\x86\x48\x86\xF7\x14\x01\x04\x62"
+    "\x2A\x86\x48\x86\xF7\x14\x01\x04\x7D" "\x2A\x86\x48\x86\xF7\x14\x01\x04\x81\x04"
+    "\x2A\x86\x48\x86\xF7\x14\x01\x04\x81\x05" "\x2A\x86\x48\x86\xF7\x14\x01\x04\x81\x08"
+    "\x2A\x86\x48\x86\xF7\x14\x01\x04\x81\x0A" "\x2A\x86\x48\x86\xF7\x14\x01\x04\x81\x0B"
+    "\x2A\x86\x48\x86\xF7\x14\x01\x04\x81\x12" "\x2A\x86\x48\x86\xF7\x14\x01\x04\x81\x14"
+    "\x2A\x86\x48\x86\xF7\x14\x01\x04\x81\x16" "\x2A\x86\x48\x86\xF7\x14\x01\x04\x81\x1C"
+    "\x2A\x86\x48\x86\xF7\x14\x01\x04\x81\x1F" "\x2A\x86\x48\x86\xF7\x14\x01\x04\x81\x29"
+    "\x2A\x86\x48\x86\xF7\x14\x01\x04\x81\x5D" "\x2A\x86\x48\x86\xF7\x14\x01\x04\x82\x05"
+    "\x2A\x86\x48\x86\xF7\x14\x01\x04\x82\x2E" "\x2A\x86\x48\x86\xF7\x14\x01\x04\x82\x33"
+    "\x2A\x86\x48\x86\xF7\x14\x01\x04\x82\x3F" "\x2A\x86\x48\x86\xF7\x14\x01\x04\x82\x6B"
+    "\x2A\x86\x48\x86\xF7\x14\x01\x04\x82\x6C" "\x2A\x86\x48\x86\xF7\x14\x01\x04\x82\x6D"
+    "\x2A\x86\x48\x86\xF7\x14\x01\x04\x82\x71" "\x2A\x86\x48\x86\xF7\x14\x01\x04\x82\x77"
+    "\x2A\x86\x48\x86\xF7\x14\x01\x04\x82\x7E" "\x2A\x86\x48\x86\xF7\x14\x01\x04\x83\x1F"
+    "\x2A\x86\x48\x86\xF7\x14\x01\x04\x83\x21" "\x2A\x86\x48\x86\xF7\x14\x01\x04\x83\x56"
+    "\x2A\x86\x48\x86\xF7\x14\x01\x04\x83\x59" "\x2A\x86\x48\x86\xF7\x14\x01\x04\x83\x5A"
+    "\x2A\x86\x48\x86\xF7\x14\x01\x04\x83\x7F" "\x2A\x86\x48\x86\xF7\x14\x01\x04\x84\x00"
+    "\x2A\x86\x48\x86\xF7\x14\x01\x04\x84\x10" "\x2A\x86\x48\x86\xF7\x14\x01\x04\x84\x11"
+    "\x2A\x86\x48\x86\xF7\x14\x01\x04\x84\x61" "\x2A\x86\x48\x86\xF7\x14\x01\x04\x84\x6A"
+    "\x2A\x86\x48\x86\xF7\x14\x01\x04\x84\x6B" "\x2A\x86\x48\x86\xF7\x14\x01\x04\x85\x04"
+    "\x2A\x86\x48\x86\xF7\x14\x01\x04\x85\x06" "\x2A\x86\x48\x86\xF7\x14\x01\x04\x85\x07"
+    "\x2A\x86\x48\x86\xF7\x14\x01\x04\x85\x0C" "\x2A\x86\x48\x86\xF7\x14\x01\x04\x85\x0D"
+    "\x2A\x86\x48\x86\xF7\x14\x01\x04\x85\x0E" "\x2A\x86\x48\x86\xF7\x14\x01\x04\x85\x0F"
+    "\x2A\x86\x48\x86\xF7\x14\x01\x04\x85\x10" "\x2A\x86\x48\x86\xF7\x14\x01\x04\x85\x16",
+    "\x2A\x86\x48\x86\xF7\x14\x01\x04\x85\x22" "\x2A\x86\x48\x86\xF7\x14\x01\x04\x85\x51"
+    "\x2A\x86\x48\x86\xF7\x14\x01\x04\x85\x52" "\x2A\x86\x48\x86\xF7\x14\x01\x04\x85\x6D"
+    "\x2A\x86\x48\x86\xF7\x14\x01\x04\x85\x6E" "\x2A\x86\x48\x86\xF7\x14\x01\x04\x86\x03"
+    "\x2A\x86\x48\x86\xF7\x14\x01\x04\x86\x0D" "\x2A\x86\x48\x86\xF7\x14\x01\x04\x86\x0E"
+    "\x2A\x86\x48\x86\xF7\x14\x01\x04\x86\x22" "\x2A\x86\x48\x86\xF7\x14\x01\x04\x86\x23"
+    "\x2A\x86\x48\x86\xF7\x14\x01\x04\x86\x24" "\x2A\x86\x48\x86\xF7\x14\x01\x04\x86\x25"
+    "\x2A\x86\x48\x86\xF7\x14\x01\x04\x86\x37" "\x2A\x86\x48\x86\xF7\x14\x01\x04\x86\x49"
+    "\x2A\x86\x48\x86\xF7\x14\x01\x04\x86\x63" "\x2A\x86\x48\x86\xF7\x14\x01\x04\x86\x64"
+    "\x2A\x86\x48\x86\xF7\x14\x01\x04\x86\x7A" "\x2A\x86\x48\x86\xF7\x14\x01\x04\x86\x7B"
+    "\x2A\x86\x48\x86\xF7\x14\x01\x04\x86\x7C" "\x2A\x86\x48\x86\xF7\x14\x01\x04\x86\x7E"
+    "\x2A\x86\x48\x86\xF7\x14\x01\x04\x87\x0F" "\x2A\x86\x48\x86\xF7\x14\x01\x04\x87\x10"
+    "\x2A\x86\x48\x86\xF7\x14\x01\x04\x87\x11" "\x2A\x86\x48\x86\xF7\x14\x01\x04\x87\x12"
+    "\x2A\x86\x48\x86\xF7\x14\x01\x04\x87\x14" "\x2A\x86\x48\x86\xF7\x14\x01\x04\x88\x5F"
+    "\x2A\x86\x48\x86\xF7\x14\x01\x04\x8A\x15" "\x2A\x86\x48\x86\xF7\x14\x01\x04\x8A\x17"
+    "\x2A\x86\x48\x86\xF7\x14\x01\x04\x8A\x18" "\x2A\x86\x48\x86\xF7\x14\x01\x04\x8A\x2F"
+    "\x2A\x86\x48\x86\xF7\x14\x01\x04\x8A\x31" "\x2A\x86\x48\x86\xF7\x14\x01\x04\x8A\x35"
+    "\x2A\x86\x48\x86\xF7\x14\x01\x04\x8A\x36" "\x2A\x86\x48\x86\xF7\x14\x01\x04\x8A\x3B"
+    "\x2A\x86\x48\x86\xF7\x14\x01\x04\x8A\x3C" "\x2A\x86\x48\x86\xF7\x14\x01\x04\x8A\x44"
+    "\x2A\x86\x48\x86\xF7\x14\x01\x04\x8A\x45" "\x2A\x86\x48\x86\xF7\x14\x01\x04\x8A\x4F"
+    "\x2A\x86\x48\x86\xF7\x14\x01\x04\x8A\x50" "\x2A\x86\x48\x86\xF7\x14\x01\x04\x8B\x02"
+    "\x2A\x86\x48\x86\xF7\x14\x01\x04\x8B\x03" "\x2A\x86\x48\x86\xF7\x14\x01\x04\x8B\x04"
+    "\x2A\x86\x48\x86\xF7\x14\x01\x04\x8B\x05" "\x2A\x86\x48\x86\xF7\x14\x01\x04\x8B\x0A"
+    "\x2A\x86\x48\x86\xF7\x14\x01\x04\x8B\x15" "\x2A\x86\x48\x86\xF7\x14\x01\x04\x8B\x16"
+    "\x2A\x86\x48\x86\xF7\x14\x01\x04\x8B\x18" "\x2A\x86\x48\x86\xF7\x14\x01\x04\x8B\x19"
+    "\x2A\x86\x48\x86\xF7\x14\x01\x04\x8B\x1A" "\x2A\x86\x48\x86\xF7\x14\x01\x04\x8B\x1C",
+    "\x2A\x86\x48\x86\xF7\x14\x01\x04\x8B\x33" "\x2A\x86\x48\x86\xF7\x14\x01\x04\x8B\x34"
+    "\x2A\x86\x48\x86\xF7\x14\x01\x04\x8D\x0A" "\x2A\x86\x48\x86\xF7\x14\x01\x04\x8D\x20"
+    "\x2A\x86\x48\x86\xF7\x14\x01\x04\x8D\x2B" "\x2A\x86\x48\x86\xF7\x14\x01\x04\x8D\x35"
+    "\x2A\x86\x48\x86\xF7\x14\x01\x04\x8D\x76" "\x2A\x86\x48\x86\xF7\x14\x01\x04\x8D\x7B"
+    "\x2A\x86\x48\x86\xF7\x14\x01\x04\x8E\x2C" "\x2A\x86\x48\x86\xF7\x14\x01\x04\x8E\x49"
+    "\x2A\x86\x48\x86\xF7\x14\x01\x04\x8F\x15" "\x2A\x86\x48\x86\xF7\x14\x01\x04\x8F\x27"
+    "\x2A\x86\x48\x86\xF7\x14\x01\x04\x8F\x28" "\x2A\x86\x48\x86\xF7\x14\x01\x04\x8F\x29"
+    "\x2A\x86\x48\x86\xF7\x14\x01\x04\x8F\x2B" "\x2A\x86\x48\x86\xF7\x14\x01\x04\x8F\x32"
+    "\x2A\x86\x48\x86\xF7\x14\x01\x04\x8F\x38" "\x2A\x86\x48\x86\xF7\x14\x01\x04\x8F\x39"
+    "\x2A\x86\x48\x86\xF7\x14\x01\x04\x8F\x3B" "\x2A\x86\x48\x86\xF7\x14\x01\x04\x8F\x4C"
+    "\x2A\x86\x48\x86\xF7\x14\x01\x04\x8F\x65" "\x2A\x86\x48\x86\xF7\x14\x01\x04\x8F\x66"
+    "\x2A\x86\x48\x86\xF7\x14\x01\x04\x90\x0A" "\x2A\x86\x48\x86\xF7\x14\x01\x05\x04"
+    "\x2A\x86\x48\x86\xF7\x14\x01\x05\x06" "\x2A\x86\x48\x86\xF7\x14\x01\x05\x08" "\x2A\x86\x48\x86\xF7\x14\x01\x05\x09"
+    "\x2A\x86\x48\x86\xF7\x14\x01\x05\x0F" "\x2A\x86\x48\x86\xF7\x14\x01\x05\x11" "\x2A\x86\x48\x86\xF7\x14\x01\x05\x17"
+    "\x2A\x86\x48\x86\xF7\x14\x01\x05\x1F" "\x2A\x86\x48\x86\xF7\x14\x01\x05\x22" "\x2A\x86\x48\x86\xF7\x14\x01\x05\x24"
+    "\x2A\x86\x48\x86\xF7\x14\x01\x05\x43" "\x2A\x86\x48\x86\xF7\x14\x01\x05\x4C" "\x2A\x86\x48\x86\xF7\x14\x01\x05\x60"
+    "\x2A\x86\x48\x86\xF7\x14\x01\x05\x7E" "\x2A\x86\x48\x86\xF7\x14\x01\x05\x81\x1D"
+    "\x2A\x86\x48\x86\xF7\x14\x01\x05\x81\x31" "\x2A\x86\x48\x86\xF7\x14\x01\x05\x81\x32"
+    "\x2A\x86\x48\x86\xF7\x14\x01\x05\x82\x08" "\x2A\x86\x48\x86\xF7\x14\x01\x05\xB6\x58\x2F"
+    "\x2A\x86\x48\x86\xF7\x14\x01\x06\x12\x01\x82\x35" "\x2A\x86\x48\x86\xF7\x14\x01\x06\x12\x01\x82\x53"
+    "\x2A\x86\x48\x86\xF7\x14\x01\x06\x12\x01\x82\x5A" "\x2A\x86\x48\x86\xF7\x2F\x01\x01\x05"
+    "\x2A\x86\x48\x86\xF7\x2F\x01\x01\x08" "\x2A\x86\x48\x86\xF7\x2F\x01\x01\x09\x01"
+    "\x2A\x86\x48\x86\xF7\x2F\x01\x01\x09\x02" "\x2A\x86\x48\x86\xF7\x2F\x01\x01\x0A"
+    "\x2A\x86\x48\x86\xF7\x63\x64\x01\x02" "\x2A\x86\x48\x86\xF7\x63\x64\x01\x03",
+    "\x2A\x86\x48\x86\xF7\x63\x64\x01\x04" "\x2A\x86\x48\x86\xF7\x63\x64\x01\x05" "\x2A\x86\x48\x86\xF7\x63\x64\x01\x06"
+    "\x2A\x86\x48\x86\xF7\x63\x64\x01\x07" "\x2A\x86\x48\x86\xF7\x63\x64\x01\x08" "\x2A\x86\x48\x86\xF7\x63\x64\x01\x09"
+    "\x2A\x86\x48\x86\xF7\x63\x64\x01\x0A" "\x2A\x86\x48\x86\xF7\x63\x64\x01\x0B" "\x2A\x86\x48\x86\xF7\x63\x64\x01\x0C"
+    "\x2A\x86\x48\x86\xF7\x63\x64\x01\x0D" "\x2A\x86\x48\x86\xF7\x63\x64\x01\x0E" "\x2A\x86\x48\x86\xF7\x63\x64\x01\x0F"
+    "\x2A\x86\x48\x86\xF7\x63\x64\x01\x10" "\x2A\x86\x48\x86\xF7\x63\x64\x01\x11" "\x2A\x86\x48\x86\xF7\x63\x64\x01\x12"
+    "\x2A\x86\x48\x86\xF7\x63\x64\x01\x14" "\x2A\x86\x48\x86\xF7\x63\x64\x01\x15" "\x2A\x86\x48\x86\xF7\x63\x64\x01\x16"
+    "\x2A\x86\x48\x86\xF7\x63\x64\x01\x17" "\x2A\x86\x48\x86\xF7\x63\x64\x01\x18" "\x2A\x86\x48\x86\xF7\x63\x64\x01\x19"
+    "\x2A\x86\x48\x86\xF7\x63\x64\x01\x1A" "\x2A\x86\x48\x86\xF7\x63\x64\x01\x1B" "\x2A\x86\x48\x86\xF7\x63\x64\x01\x1C"
+    "\x2A\x86\x48\x86\xF7\x63\x64\x01\x1D" "\x2A\x86\x48\x86\xF7\x63\x64\x01\x21" "\x2A\x86\x48\x86\xF7\x63\x64\x01\x22"
+    "\x2B" "\x2B\x05\x01\x05\x02" "\x2B\x06" "\x2B\x06\x01" "\x2B\x06\x01\x01" "\x2B\x06\x01\x01\x01\x01\x00"
     "\x2B\x06\x01\x01\x01\x01\x01" "\x2B\x06\x01\x01\x01\x01\x02" "\x2B\x06\x01\x01\x01\x01\x03"
     "\x2B\x06\x01\x01\x01\x01\x04" "\x2B\x06\x01\x01\x01\x01\x05" "\x2B\x06\x01\x01\x01\x01\x06"
     "\x2B\x06\x01\x01\x01\x01\x07" "\x2B\x06\x01\x01\x01\x01\x08" "\x2B\x06\x01\x01\x01\x01\x09"
@@ -309,31 +377,33 @@ CONST_OID_TABLE const uint8_t const_oid_common_bytes[][512] = {
     "\x2B\x06\x01\x01\x01\x01\x10" "\x2B\x06\x01\x01\x01\x01\x11" "\x2B\x06\x01\x01\x01\x01\x12"
     "\x2B\x06\x01\x01\x01\x01\x13" "\x2B\x06\x01\x01\x01\x01\x14" "\x2B\x06\x01\x01\x01\x01\x15"
     "\x2B\x06\x01\x01\x01\x01\x16" "\x2B\x06\x01\x01\x01\x01\x17" "\x2B\x06\x01\x01\x01\x01\x18"
-    "\x2B\x06\x01\x01\x01\x01\x1A" "\x2B\x06\x01\x01\x01\x01\x1B" "\x2B\x06\x01\x01\x01\x02\x00"
+    "\x2B\x06\x01\x01\x01\x01\x1A" "\x2B\x06\x01\x01\x01\x01\x1B" "\x2B\x06\x01\x01\x01\x01\x1F"
+    "\x2B\x06\x01\x01\x01\x01\x20" "\x2B\x06\x01\x01\x01\x01\x21" "\x2B\x06\x01\x01\x01\x02\x00"
     "\x2B\x06\x01\x01\x01\x02\x01" "\x2B\x06\x01\x01\x01\x02\x02" "\x2B\x06\x01\x01\x01\x02\x03"
-    "\x2B\x06\x01\x01\x01\x02\x04" "\x2B\x06\x01\x01\x01\x02\x05" "\x2B\x06\x01\x01\x01\x02\x06"
-    "\x2B\x06\x01\x01\x01\x02\x07" "\x2B\x06\x01\x01\x01\x02\x08" "\x2B\x06\x01\x01\x01\x02\x09",
-    "\x2B\x06\x01\x01\x01\x02\x0A" "\x2B\x06\x01\x01\x01\x02\x0B" "\x2B\x06\x01\x01\x01\x02\x0C" "\x2B\x06\x01\x01\x04"
-    "\x2B\x06\x01\x01\x05" "\x2B\x06\x01\x01\x08" "\x2B\x06\x01\x01\x0C" "\x2B\x06\x01\x01\x0D\x01"
-    "\x2B\x06\x01\x01\x0D\x02" "\x2B\x06\x01\x01\x0E" "\x2B\x06\x01\x01\x13" "\x2B\x06\x01\x01\x15"
-    "\x2B\x06\x01\x01\x16" "\x2B\x06\x01\x02" "\x2B\x06\x01\x02\x01" "\x2B\x06\x01\x02\x01\x01"
-    "\x2B\x06\x01\x02\x01\x01\x01" "\x2B\x06\x01\x02\x01\x01\x02" "\x2B\x06\x01\x02\x01\x01\x03"
-    "\x2B\x06\x01\x02\x01\x01\x04" "\x2B\x06\x01\x02\x01\x01\x05" "\x2B\x06\x01\x02\x01\x01\x06"
-    "\x2B\x06\x01\x02\x01\x01\x07" "\x2B\x06\x01\x02\x01\x01\x08" "\x2B\x06\x01\x02\x01\x01\x09"
-    "\x2B\x06\x01\x02\x01\x01\x09\x01" "\x2B\x06\x01\x02\x01\x01\x09\x01\x01" "\x2B\x06\x01\x02\x01\x01\x09\x01\x02"
-    "\x2B\x06\x01\x02\x01\x01\x09\x01\x03" "\x2B\x06\x01\x02\x01\x01\x09\x01\x04" "\x2B\x06\x01\x02\x01\x02"
-    "\x2B\x06\x01\x02\x01\x02\x01" "\x2B\x06\x01\x02\x01\x02\x02" "\x2B\x06\x01\x02\x01\x02\x02\x01"
-    "\x2B\x06\x01\x02\x01\x02\x02\x01\x01" "\x2B\x06\x01\x02\x01\x02\x02\x01\x02" "\x2B\x06\x01\x02\x01\x02\x02\x01\x03"
-    "\x2B\x06\x01\x02\x01\x02\x02\x01\x04" "\x2B\x06\x01\x02\x01\x02\x02\x01\x05" "\x2B\x06\x01\x02\x01\x02\x02\x01\x06"
-    "\x2B\x06\x01\x02\x01\x02\x02\x01\x07" "\x2B\x06\x01\x02\x01\x02\x02\x01\x08" "\x2B\x06\x01\x02\x01\x02\x02\x01\x09"
-    "\x2B\x06\x01\x02\x01\x02\x02\x01\x0A" "\x2B\x06\x01\x02\x01\x02\x02\x01\x0B" "\x2B\x06\x01\x02\x01\x02\x02\x01\x0C"
-    "\x2B\x06\x01\x02\x01\x02\x02\x01\x0D" "\x2B\x06\x01\x02\x01\x02\x02\x01\x0E" "\x2B\x06\x01\x02\x01\x02\x02\x01\x0F"
-    "\x2B\x06\x01\x02\x01\x02\x02\x01\x10" "\x2B\x06\x01\x02\x01\x02\x02\x01\x11" "\x2B\x06\x01\x02\x01\x02\x02\x01\x12"
-    "\x2B\x06\x01\x02\x01\x02\x02\x01\x13" "\x2B\x06\x01\x02\x01\x02\x02\x01\x14" "\x2B\x06\x01\x02\x01\x02\x02\x01\x15"
-    "\x2B\x06\x01\x02\x01\x02\x02\x01\x16" "\x2B\x06\x01\x02\x01\x03" "\x2B\x06\x01\x02\x01\x03\x01"
-    "\x2B\x06\x01\x02\x01\x03\x01\x01" "\x2B\x06\x01\x02\x01\x03\x01\x01\x01" "\x2B\x06\x01\x02\x01\x03\x01\x01\x02"
+    "\x2B\x06\x01\x01\x01\x02\x04", "\x2B\x06\x01\x01\x01\x02\x05" "\x2B\x06\x01\x01\x01\x02\x06"
+    "\x2B\x06\x01\x01\x01\x02\x07" "\x2B\x06\x01\x01\x01\x02\x08" "\x2B\x06\x01\x01\x01\x02\x09"
+    "\x2B\x06\x01\x01\x01\x02\x0A" "\x2B\x06\x01\x01\x01\x02\x0B" "\x2B\x06\x01\x01\x01\x02\x0C"
+    "\x2B\x06\x01\x01\x01\x02\x10" "\x2B\x06\x01\x01\x01\x02\x11" "\x2B\x06\x01\x01\x04" "\x2B\x06\x01\x01\x05"
+    "\x2B\x06\x01\x01\x08" "\x2B\x06\x01\x01\x0C" "\x2B\x06\x01\x01\x0D\x01" "\x2B\x06\x01\x01\x0D\x02"
+    "\x2B\x06\x01\x01\x0E" "\x2B\x06\x01\x01\x13" "\x2B\x06\x01\x01\x15" "\x2B\x06\x01\x01\x16" "\x2B\x06\x01\x02"
+    "\x2B\x06\x01\x02\x01" "\x2B\x06\x01\x02\x01\x01" "\x2B\x06\x01\x02\x01\x01\x01" "\x2B\x06\x01\x02\x01\x01\x02"
+    "\x2B\x06\x01\x02\x01\x01\x03" "\x2B\x06\x01\x02\x01\x01\x03\x00" "\x2B\x06\x01\x02\x01\x01\x04"
+    "\x2B\x06\x01\x02\x01\x01\x05" "\x2B\x06\x01\x02\x01\x01\x06" "\x2B\x06\x01\x02\x01\x01\x07"
+    "\x2B\x06\x01\x02\x01\x01\x08" "\x2B\x06\x01\x02\x01\x01\x09" "\x2B\x06\x01\x02\x01\x01\x09\x01"
+    "\x2B\x06\x01\x02\x01\x01\x09\x01\x01" "\x2B\x06\x01\x02\x01\x01\x09\x01\x02" "\x2B\x06\x01\x02\x01\x01\x09\x01\x03"
+    "\x2B\x06\x01\x02\x01\x01\x09\x01\x04" "\x2B\x06\x01\x02\x01\x02" "\x2B\x06\x01\x02\x01\x02\x01"
+    "\x2B\x06\x01\x02\x01\x02\x02" "\x2B\x06\x01\x02\x01\x02\x02\x01" "\x2B\x06\x01\x02\x01\x02\x02\x01\x01"
+    "\x2B\x06\x01\x02\x01\x02\x02\x01\x02" "\x2B\x06\x01\x02\x01\x02\x02\x01\x03" "\x2B\x06\x01\x02\x01\x02\x02\x01\x04"
+    "\x2B\x06\x01\x02\x01\x02\x02\x01\x05" "\x2B\x06\x01\x02\x01\x02\x02\x01\x06" "\x2B\x06\x01\x02\x01\x02\x02\x01\x07"
+    "\x2B\x06\x01\x02\x01\x02\x02\x01\x08" "\x2B\x06\x01\x02\x01\x02\x02\x01\x09" "\x2B\x06\x01\x02\x01\x02\x02\x01\x0A"
+    "\x2B\x06\x01\x02\x01\x02\x02\x01\x0B" "\x2B\x06\x01\x02\x01\x02\x02\x01\x0C" "\x2B\x06\x01\x02\x01\x02\x02\x01\x0D"
+    "\x2B\x06\x01\x02\x01\x02\x02\x01\x0E" "\x2B\x06\x01\x02\x01\x02\x02\x01\x0F" "\x2B\x06\x01\x02\x01\x02\x02\x01\x10"
+    "\x2B\x06\x01\x02\x01\x02\x02\x01\x11" "\x2B\x06\x01\x02\x01\x02\x02\x01\x12" "\x2B\x06\x01\x02\x01\x02\x02\x01\x13"
+    "\x2B\x06\x01\x02\x01\x02\x02\x01\x14" "\x2B\x06\x01\x02\x01\x02\x02\x01\x15" "\x2B\x06\x01\x02\x01\x02\x02\x01\x16"
+    "\x2B\x06\x01\x02\x01\x03" "\x2B\x06\x01\x02\x01\x03\x01" "\x2B\x06\x01\x02\x01\x03\x01\x01"
+    "\x2B\x06\x01\x02\x01\x03\x01\x01\x01", "\x2B\x06\x01\x02\x01\x03\x01\x01\x02"
     "\x2B\x06\x01\x02\x01\x03\x01\x01\x03" "\x2B\x06\x01\x02\x01\x04" "\x2B\x06\x01\x02\x01\x04\x01"
-    "\x2B\x06\x01\x02\x01\x04\x02" "\x2B\x06\x01\x02\x01\x04\x03" "\x2B\x06\x01\x02\x01\x04\x04",
+    "\x2B\x06\x01\x02\x01\x04\x02" "\x2B\x06\x01\x02\x01\x04\x03" "\x2B\x06\x01\x02\x01\x04\x04"
     "\x2B\x06\x01\x02\x01\x04\x05" "\x2B\x06\x01\x02\x01\x04\x06" "\x2B\x06\x01\x02\x01\x04\x07"
     "\x2B\x06\x01\x02\x01\x04\x08" "\x2B\x06\x01\x02\x01\x04\x09" "\x2B\x06\x01\x02\x01\x04\x0A"
     "\x2B\x06\x01\x02\x01\x04\x0B" "\x2B\x06\x01\x02\x01\x04\x0C" "\x2B\x06\x01\x02\x01\x04\x0D"
@@ -353,9 +423,9 @@ CONST_OID_TABLE const uint8_t const_oid_common_bytes[][512] = {
     "\x2B\x06\x01\x02\x01\x04\x18\x02\x01\x01" "\x2B\x06\x01\x02\x01\x04\x18\x02\x01\x02"
     "\x2B\x06\x01\x02\x01\x04\x18\x02\x01\x03" "\x2B\x06\x01\x02\x01\x04\x18\x02\x01\x04"
     "\x2B\x06\x01\x02\x01\x04\x18\x02\x01\x05" "\x2B\x06\x01\x02\x01\x04\x18\x02\x01\x06"
-    "\x2B\x06\x01\x02\x01\x04\x18\x02\x01\x07" "\x2B\x06\x01\x02\x01\x04\x18\x02\x01\x08"
+    "\x2B\x06\x01\x02\x01\x04\x18\x02\x01\x07", "\x2B\x06\x01\x02\x01\x04\x18\x02\x01\x08"
     "\x2B\x06\x01\x02\x01\x04\x18\x02\x01\x09" "\x2B\x06\x01\x02\x01\x04\x18\x02\x01\x0A"
-    "\x2B\x06\x01\x02\x01\x04\x18\x02\x01\x0B" "\x2B\x06\x01\x02\x01\x04\x18\x02\x01\x0C",
+    "\x2B\x06\x01\x02\x01\x04\x18\x02\x01\x0B" "\x2B\x06\x01\x02\x01\x04\x18\x02\x01\x0C"
     "\x2B\x06\x01\x02\x01\x04\x18\x02\x01\x0D" "\x2B\x06\x01\x02\x01\x04\x18\x02\x01\x0E"
     "\x2B\x06\x01\x02\x01\x04\x18\x02\x01\x0F" "\x2B\x06\x01\x02\x01\x04\x18\x03" "\x2B\x06\x01\x02\x01\x04\x18\x04"
     "\x2B\x06\x01\x02\x01\x04\x18\x04\x01" "\x2B\x06\x01\x02\x01\x04\x18\x04\x01\x01"
@@ -377,9 +447,9 @@ CONST_OID_TABLE const uint8_t const_oid_common_bytes[][512] = {
     "\x2B\x06\x01\x02\x01\x04\x18\x07\x01\x0E" "\x2B\x06\x01\x02\x01\x04\x18\x07\x01\x0F"
     "\x2B\x06\x01\x02\x01\x04\x18\x07\x01\x10" "\x2B\x06\x01\x02\x01\x04\x18\x07\x01\x11"
     "\x2B\x06\x01\x02\x01\x04\x18\x08" "\x2B\x06\x01\x02\x01\x04\x19" "\x2B\x06\x01\x02\x01\x04\x1A"
-    "\x2B\x06\x01\x02\x01\x04\x1B" "\x2B\x06\x01\x02\x01\x04\x1C" "\x2B\x06\x01\x02\x01\x04\x1C\x01"
+    "\x2B\x06\x01\x02\x01\x04\x1B" "\x2B\x06\x01\x02\x01\x04\x1C" "\x2B\x06\x01\x02\x01\x04\x1C\x01",
     "\x2B\x06\x01\x02\x01\x04\x1C\x01\x01" "\x2B\x06\x01\x02\x01\x04\x1C\x01\x02" "\x2B\x06\x01\x02\x01\x04\x1C\x01\x03"
-    "\x2B\x06\x01\x02\x01\x04\x1C\x01\x04" "\x2B\x06\x01\x02\x01\x04\x1D" "\x2B\x06\x01\x02\x01\x04\x1E",
+    "\x2B\x06\x01\x02\x01\x04\x1C\x01\x04" "\x2B\x06\x01\x02\x01\x04\x1D" "\x2B\x06\x01\x02\x01\x04\x1E"
     "\x2B\x06\x01\x02\x01\x04\x1E\x01" "\x2B\x06\x01\x02\x01\x04\x1E\x01\x01" "\x2B\x06\x01\x02\x01\x04\x1E\x01\x02"
     "\x2B\x06\x01\x02\x01\x04\x1E\x01\x03" "\x2B\x06\x01\x02\x01\x04\x1E\x01\x05" "\x2B\x06\x01\x02\x01\x04\x1E\x01\x06"
     "\x2B\x06\x01\x02\x01\x04\x1E\x01\x07" "\x2B\x06\x01\x02\x01\x04\x1E\x01\x08" "\x2B\x06\x01\x02\x01\x04\x1F"
@@ -401,9 +471,9 @@ CONST_OID_TABLE const uint8_t const_oid_common_bytes[][512] = {
     "\x2B\x06\x01\x02\x01\x04\x1F\x01\x01\x1F" "\x2B\x06\x01\x02\x01\x04\x1F\x01\x01\x20"
     "\x2B\x06\x01\x02\x01\x04\x1F\x01\x01\x21" "\x2B\x06\x01\x02\x01\x04\x1F\x01\x01\x22"
     "\x2B\x06\x01\x02\x01\x04\x1F\x01\x01\x23" "\x2B\x06\x01\x02\x01\x04\x1F\x01\x01\x24"
-    "\x2B\x06\x01\x02\x01\x04\x1F\x01\x01\x25" "\x2B\x06\x01\x02\x01\x04\x1F\x01\x01\x26"
+    "\x2B\x06\x01\x02\x01\x04\x1F\x01\x01\x25", "\x2B\x06\x01\x02\x01\x04\x1F\x01\x01\x26"
     "\x2B\x06\x01\x02\x01\x04\x1F\x01\x01\x27" "\x2B\x06\x01\x02\x01\x04\x1F\x01\x01\x28"
-    "\x2B\x06\x01\x02\x01\x04\x1F\x01\x01\x29" "\x2B\x06\x01\x02\x01\x04\x1F\x01\x01\x2A",
+    "\x2B\x06\x01\x02\x01\x04\x1F\x01\x01\x29" "\x2B\x06\x01\x02\x01\x04\x1F\x01\x01\x2A"
     "\x2B\x06\x01\x02\x01\x04\x1F\x01\x01\x2B" "\x2B\x06\x01\x02\x01\x04\x1F\x01\x01\x2C"
     "\x2B\x06\x01\x02\x01\x04\x1F\x01\x01\x2D" "\x2B\x06\x01\x02\x01\x04\x1F\x01\x01\x2E"
     "\x2B\x06\x01\x02\x01\x04\x1F\x01\x01\x2F" "\x2B\x06\x01\x02\x01\x04\x1F\x02" "\x2B\x06\x01\x02\x01\x04\x1F\x03"
@@ -426,9 +496,9 @@ CONST_OID_TABLE const uint8_t const_oid_common_bytes[][512] = {
     "\x2B\x06\x01\x02\x01\x04\x1F\x03\x01\x21" "\x2B\x06\x01\x02\x01\x04\x1F\x03\x01\x22"
     "\x2B\x06\x01\x02\x01\x04\x1F\x03\x01\x23" "\x2B\x06\x01\x02\x01\x04\x1F\x03\x01\x24"
     "\x2B\x06\x01\x02\x01\x04\x1F\x03\x01\x25" "\x2B\x06\x01\x02\x01\x04\x1F\x03\x01\x26"
-    "\x2B\x06\x01\x02\x01\x04\x1F\x03\x01\x27" "\x2B\x06\x01\x02\x01\x04\x1F\x03\x01\x28"
+    "\x2B\x06\x01\x02\x01\x04\x1F\x03\x01\x27", "\x2B\x06\x01\x02\x01\x04\x1F\x03\x01\x28"
     "\x2B\x06\x01\x02\x01\x04\x1F\x03\x01\x29" "\x2B\x06\x01\x02\x01\x04\x1F\x03\x01\x2A"
-    "\x2B\x06\x01\x02\x01\x04\x1F\x03\x01\x2B" "\x2B\x06\x01\x02\x01\x04\x1F\x03\x01\x2C",
+    "\x2B\x06\x01\x02\x01\x04\x1F\x03\x01\x2B" "\x2B\x06\x01\x02\x01\x04\x1F\x03\x01\x2C"
     "\x2B\x06\x01\x02\x01\x04\x1F\x03\x01\x2D" "\x2B\x06\x01\x02\x01\x04\x1F\x03\x01\x2E"
     "\x2B\x06\x01\x02\x01\x04\x1F\x03\x01\x2F" "\x2B\x06\x01\x02\x01\x04\x20" "\x2B\x06\x01\x02\x01\x04\x20\x01"
     "\x2B\x06\x01\x02\x01\x04\x20\x01\x01" "\x2B\x06\x01\x02\x01\x04\x20\x01\x02" "\x2B\x06\x01\x02\x01\x04\x20\x01\x03"
@@ -446,9 +516,9 @@ CONST_OID_TABLE const uint8_t const_oid_common_bytes[][512] = {
     "\x2B\x06\x01\x02\x01\x04\x24\x01\x02" "\x2B\x06\x01\x02\x01\x04\x24\x01\x03" "\x2B\x06\x01\x02\x01\x04\x24\x01\x04"
     "\x2B\x06\x01\x02\x01\x04\x24\x01\x05" "\x2B\x06\x01\x02\x01\x04\x24\x01\x06" "\x2B\x06\x01\x02\x01\x04\x24\x01\x07"
     "\x2B\x06\x01\x02\x01\x04\x24\x01\x08" "\x2B\x06\x01\x02\x01\x04\x24\x01\x09" "\x2B\x06\x01\x02\x01\x04\x24\x01\x0A"
-    "\x2B\x06\x01\x02\x01\x04\x24\x01\x0B" "\x2B\x06\x01\x02\x01\x04\x24\x01\x0C" "\x2B\x06\x01\x02\x01\x04\x24\x01\x0D"
-    "\x2B\x06\x01\x02\x01\x04\x25" "\x2B\x06\x01\x02\x01\x04\x25\x01" "\x2B\x06\x01\x02\x01\x04\x25\x01\x01"
-    "\x2B\x06\x01\x02\x01\x04\x25\x01\x02" "\x2B\x06\x01\x02\x01\x04\x25\x01\x03",
+    "\x2B\x06\x01\x02\x01\x04\x24\x01\x0B" "\x2B\x06\x01\x02\x01\x04\x24\x01\x0C",
+    "\x2B\x06\x01\x02\x01\x04\x24\x01\x0D" "\x2B\x06\x01\x02\x01\x04\x25" "\x2B\x06\x01\x02\x01\x04\x25\x01"
+    "\x2B\x06\x01\x02\x01\x04\x25\x01\x01" "\x2B\x06\x01\x02\x01\x04\x25\x01\x02" "\x2B\x06\x01\x02\x01\x04\x25\x01\x03"
     "\x2B\x06\x01\x02\x01\x04\x25\x01\x04" "\x2B\x06\x01\x02\x01\x04\x25\x01\x05" "\x2B\x06\x01\x02\x01\x04\x26"
     "\x2B\x06\x01\x02\x01\x04\x27" "\x2B\x06\x01\x02\x01\x04\x27\x01" "\x2B\x06\x01\x02\x01\x04\x27\x01\x01"
     "\x2B\x06\x01\x02\x01\x04\x27\x01\x02" "\x2B\x06\x01\x02\x01\x04\x27\x01\x03" "\x2B\x06\x01\x02\x01\x04\x27\x01\x04"
@@ -468,9 +538,9 @@ CONST_OID_TABLE const uint8_t const_oid_common_bytes[][512] = {
     "\x2B\x06\x01\x02\x01\x05\x1D\x01\x03" "\x2B\x06\x01\x02\x01\x05\x1D\x01\x04" "\x2B\x06\x01\x02\x01\x05\x1D\x01\x05"
     "\x2B\x06\x01\x02\x01\x05\x1E" "\x2B\x06\x01\x02\x01\x05\x1E\x01" "\x2B\x06\x01\x02\x01\x05\x1E\x01\x01"
     "\x2B\x06\x01\x02\x01\x05\x1E\x01\x02" "\x2B\x06\x01\x02\x01\x05\x1E\x01\x03" "\x2B\x06\x01\x02\x01\x05\x1E\x01\x04"
-    "\x2B\x06\x01\x02\x01\x06" "\x2B\x06\x01\x02\x01\x06\x01" "\x2B\x06\x01\x02\x01\x06\x02"
+    "\x2B\x06\x01\x02\x01\x06", "\x2B\x06\x01\x02\x01\x06\x01" "\x2B\x06\x01\x02\x01\x06\x02"
     "\x2B\x06\x01\x02\x01\x06\x03" "\x2B\x06\x01\x02\x01\x06\x04" "\x2B\x06\x01\x02\x01\x06\x05"
-    "\x2B\x06\x01\x02\x01\x06\x06" "\x2B\x06\x01\x02\x01\x06\x07" "\x2B\x06\x01\x02\x01\x06\x08",
+    "\x2B\x06\x01\x02\x01\x06\x06" "\x2B\x06\x01\x02\x01\x06\x07" "\x2B\x06\x01\x02\x01\x06\x08"
     "\x2B\x06\x01\x02\x01\x06\x09" "\x2B\x06\x01\x02\x01\x06\x0A" "\x2B\x06\x01\x02\x01\x06\x0B"
     "\x2B\x06\x01\x02\x01\x06\x0C" "\x2B\x06\x01\x02\x01\x06\x0D" "\x2B\x06\x01\x02\x01\x06\x0D\x01"
     "\x2B\x06\x01\x02\x01\x06\x0D\x01\x01" "\x2B\x06\x01\x02\x01\x06\x0D\x01\x02" "\x2B\x06\x01\x02\x01\x06\x0D\x01\x03"
@@ -489,55 +559,173 @@ CONST_OID_TABLE const uint8_t const_oid_common_bytes[][512] = {
     "\x2B\x06\x01\x02\x01\x07\x07\x01\x04" "\x2B\x06\x01\x02\x01\x07\x07\x01\x05" "\x2B\x06\x01\x02\x01\x07\x07\x01\x06"
     "\x2B\x06\x01\x02\x01\x07\x07\x01\x07" "\x2B\x06\x01\x02\x01\x07\x07\x01\x08" "\x2B\x06\x01\x02\x01\x07\x08"
     "\x2B\x06\x01\x02\x01\x07\x09" "\x2B\x06\x01\x02\x01\x08" "\x2B\x06\x01\x02\x01\x08\x01"
-    "\x2B\x06\x01\x02\x01\x08\x02" "\x2B\x06\x01\x02\x01\x08\x03" "\x2B\x06\x01\x02\x01\x08\x04"
+    "\x2B\x06\x01\x02\x01\x08\x02" "\x2B\x06\x01\x02\x01\x08\x03", "\x2B\x06\x01\x02\x01\x08\x04"
     "\x2B\x06\x01\x02\x01\x08\x05" "\x2B\x06\x01\x02\x01\x08\x05\x01" "\x2B\x06\x01\x02\x01\x08\x05\x01\x01"
-    "\x2B\x06\x01\x02\x01\x08\x05\x01\x02" "\x2B\x06\x01\x02\x01\x08\x05\x01\x03"
-    "\x2B\x06\x01\x02\x01\x08\x05\x01\x04", "\x2B\x06\x01\x02\x01\x08\x05\x01\x05"
-    "\x2B\x06\x01\x02\x01\x08\x05\x01\x06" "\x2B\x06\x01\x02\x01\x08\x05\x01\x07" "\x2B\x06\x01\x02\x01\x08\x05\x01\x08"
-    "\x2B\x06\x01\x02\x01\x08\x05\x01\x09" "\x2B\x06\x01\x02\x01\x08\x05\x01\x0A" "\x2B\x06\x01\x02\x01\x08\x05\x01\x0B"
-    "\x2B\x06\x01\x02\x01\x08\x05\x01\x0C" "\x2B\x06\x01\x02\x01\x08\x05\x01\x0D" "\x2B\x06\x01\x02\x01\x08\x05\x01\x0E"
-    "\x2B\x06\x01\x02\x01\x08\x05\x01\x0F" "\x2B\x06\x01\x02\x01\x08\x06" "\x2B\x06\x01\x02\x01\x0A"
-    "\x2B\x06\x01\x02\x01\x0A\x07" "\x2B\x06\x01\x02\x01\x0A\x07\x02" "\x2B\x06\x01\x02\x01\x0A\x07\x02\x01"
-    "\x2B\x06\x01\x02\x01\x0A\x07\x02\x01\x01" "\x2B\x06\x01\x02\x01\x0A\x07\x02\x01\x02"
-    "\x2B\x06\x01\x02\x01\x0A\x07\x02\x01\x03" "\x2B\x06\x01\x02\x01\x0A\x07\x02\x01\x04"
-    "\x2B\x06\x01\x02\x01\x0A\x07\x02\x01\x05" "\x2B\x06\x01\x02\x01\x0A\x07\x02\x01\x06"
-    "\x2B\x06\x01\x02\x01\x0A\x07\x02\x01\x07" "\x2B\x06\x01\x02\x01\x0A\x07\x02\x01\x08"
-    "\x2B\x06\x01\x02\x01\x0A\x07\x02\x01\x09" "\x2B\x06\x01\x02\x01\x0A\x07\x02\x01\x0A"
-    "\x2B\x06\x01\x02\x01\x0A\x07\x02\x01\x0B" "\x2B\x06\x01\x02\x01\x0A\x07\x02\x01\x0D"
-    "\x2B\x06\x01\x02\x01\x0A\x07\x02\x01\x10" "\x2B\x06\x01\x02\x01\x0A\x07\x02\x01\x11"
-    "\x2B\x06\x01\x02\x01\x0A\x07\x02\x01\x12" "\x2B\x06\x01\x02\x01\x0A\x07\x02\x01\x13"
-    "\x2B\x06\x01\x02\x01\x0A\x07\x02\x01\x14" "\x2B\x06\x01\x02\x01\x0A\x07\x02\x01\x15"
-    "\x2B\x06\x01\x02\x01\x0A\x07\x05" "\x2B\x06\x01\x02\x01\x0A\x07\x05\x01" "\x2B\x06\x01\x02\x01\x0A\x07\x05\x01\x02"
-    "\x2B\x06\x01\x02\x01\x0A\x07\x05\x01\x03" "\x2B\x06\x01\x02\x01\x0A\x07\x06" "\x2B\x06\x01\x02\x01\x0A\x07\x06\x01"
-    "\x2B\x06\x01\x02\x01\x0A\x07\x06\x02" "\x2B\x06\x01\x02\x01\x0A\x07\x07" "\x2B\x06\x01\x02\x01\x0A\x07\x07\x01"
-    "\x2B\x06\x01\x02\x01\x0A\x07\x07\x02" "\x2B\x06\x01\x02\x01\x0A\x07\x09" "\x2B\x06\x01\x02\x01\x0A\x07\x09\x01"
-    "\x2B\x06\x01\x02\x01\x0A\x07\x09\x01\x01" "\x2B\x06\x01\x02\x01\x0A\x07\x09\x01\x02"
-    "\x2B\x06\x01\x02\x01\x0A\x07\x09\x01\x03" "\x2B\x06\x01\x02\x01\x0A\x07\x0A" "\x2B\x06\x01\x02\x01\x0A\x07\x0A\x01"
-    "\x2B\x06\x01\x02\x01\x0A\x07\x0A\x01\x01" "\x2B\x06\x01\x02\x01\x0A\x07\x0A\x01\x02"
-    "\x2B\x06\x01\x02\x01\x0A\x07\x0A\x01\x03" "\x2B\x06\x01\x02\x01\x0A\x07\x0A\x01\x04",
-    "\x2B\x06\x01\x02\x01\x0A\x07\x0A\x01\x05" "\x2B\x06\x01\x02\x01\x0A\x07\x0A\x01\x06"
-    "\x2B\x06\x01\x02\x01\x0A\x07\x0B" "\x2B\x06\x01\x02\x01\x0A\x07\x0B\x01" "\x2B\x06\x01\x02\x01\x0A\x07\x0B\x01\x01"
-    "\x2B\x06\x01\x02\x01\x0A\x07\x0B\x01\x02" "\x2B\x06\x01\x02\x01\x0A\x07\x0B\x01\x03"
-    "\x2B\x06\x01\x02\x01\x0A\x07\x0B\x01\x04" "\x2B\x06\x01\x02\x01\x0A\x07\x0B\x01\x05"
-    "\x2B\x06\x01\x02\x01\x0A\x07\x0B\x01\x06" "\x2B\x06\x01\x02\x01\x0B" "\x2B\x06\x01\x02\x01\x0B\x01"
-    "\x2B\x06\x01\x02\x01\x0B\x02" "\x2B\x06\x01\x02\x01\x0B\x03" "\x2B\x06\x01\x02\x01\x0B\x04"
-    "\x2B\x06\x01\x02\x01\x0B\x05" "\x2B\x06\x01\x02\x01\x0B\x06" "\x2B\x06\x01\x02\x01\x0B\x08"
-    "\x2B\x06\x01\x02\x01\x0B\x09" "\x2B\x06\x01\x02\x01\x0B\x0A" "\x2B\x06\x01\x02\x01\x0B\x0B"
-    "\x2B\x06\x01\x02\x01\x0B\x0C" "\x2B\x06\x01\x02\x01\x0B\x0D" "\x2B\x06\x01\x02\x01\x0B\x0E"
-    "\x2B\x06\x01\x02\x01\x0B\x0F" "\x2B\x06\x01\x02\x01\x0B\x10" "\x2B\x06\x01\x02\x01\x0B\x11"
-    "\x2B\x06\x01\x02\x01\x0B\x12" "\x2B\x06\x01\x02\x01\x0B\x13" "\x2B\x06\x01\x02\x01\x0B\x14"
-    "\x2B\x06\x01\x02\x01\x0B\x15" "\x2B\x06\x01\x02\x01\x0B\x16" "\x2B\x06\x01\x02\x01\x0B\x18"
-    "\x2B\x06\x01\x02\x01\x0B\x19" "\x2B\x06\x01\x02\x01\x0B\x1A" "\x2B\x06\x01\x02\x01\x0B\x1B"
-    "\x2B\x06\x01\x02\x01\x0B\x1C" "\x2B\x06\x01\x02\x01\x0B\x1D" "\x2B\x06\x01\x02\x01\x0B\x1E"
-    "\x2B\x06\x01\x02\x01\x0B\x1F" "\x2B\x06\x01\x02\x01\x0B\x20" "\x2B\x06\x01\x02\x01\x11"
+    "\x2B\x06\x01\x02\x01\x08\x05\x01\x02" "\x2B\x06\x01\x02\x01\x08\x05\x01\x03" "\x2B\x06\x01\x02\x01\x08\x05\x01\x04"
+    "\x2B\x06\x01\x02\x01\x08\x05\x01\x05" "\x2B\x06\x01\x02\x01\x08\x05\x01\x06" "\x2B\x06\x01\x02\x01\x08\x05\x01\x07"
+    "\x2B\x06\x01\x02\x01\x08\x05\x01\x08" "\x2B\x06\x01\x02\x01\x08\x05\x01\x09" "\x2B\x06\x01\x02\x01\x08\x05\x01\x0A"
+    "\x2B\x06\x01\x02\x01\x08\x05\x01\x0B" "\x2B\x06\x01\x02\x01\x08\x05\x01\x0C" "\x2B\x06\x01\x02\x01\x08\x05\x01\x0D"
+    "\x2B\x06\x01\x02\x01\x08\x05\x01\x0E" "\x2B\x06\x01\x02\x01\x08\x05\x01\x0F" "\x2B\x06\x01\x02\x01\x08\x06"
+    "\x2B\x06\x01\x02\x01\x0A" "\x2B\x06\x01\x02\x01\x0A\x07" "\x2B\x06\x01\x02\x01\x0A\x07\x02"
+    "\x2B\x06\x01\x02\x01\x0A\x07\x02\x01" "\x2B\x06\x01\x02\x01\x0A\x07\x02\x01\x01"
+    "\x2B\x06\x01\x02\x01\x0A\x07\x02\x01\x02" "\x2B\x06\x01\x02\x01\x0A\x07\x02\x01\x03"
+    "\x2B\x06\x01\x02\x01\x0A\x07\x02\x01\x04" "\x2B\x06\x01\x02\x01\x0A\x07\x02\x01\x05"
+    "\x2B\x06\x01\x02\x01\x0A\x07\x02\x01\x06" "\x2B\x06\x01\x02\x01\x0A\x07\x02\x01\x07"
+    "\x2B\x06\x01\x02\x01\x0A\x07\x02\x01\x08" "\x2B\x06\x01\x02\x01\x0A\x07\x02\x01\x09"
+    "\x2B\x06\x01\x02\x01\x0A\x07\x02\x01\x0A" "\x2B\x06\x01\x02\x01\x0A\x07\x02\x01\x0B"
+    "\x2B\x06\x01\x02\x01\x0A\x07\x02\x01\x0D" "\x2B\x06\x01\x02\x01\x0A\x07\x02\x01\x10"
+    "\x2B\x06\x01\x02\x01\x0A\x07\x02\x01\x11" "\x2B\x06\x01\x02\x01\x0A\x07\x02\x01\x12"
+    "\x2B\x06\x01\x02\x01\x0A\x07\x02\x01\x13" "\x2B\x06\x01\x02\x01\x0A\x07\x02\x01\x14"
+    "\x2B\x06\x01\x02\x01\x0A\x07\x02\x01\x15" "\x2B\x06\x01\x02\x01\x0A\x07\x05" "\x2B\x06\x01\x02\x01\x0A\x07\x05\x01"
+    "\x2B\x06\x01\x02\x01\x0A\x07\x05\x01\x02" "\x2B\x06\x01\x02\x01\x0A\x07\x05\x01\x03"
+    "\x2B\x06\x01\x02\x01\x0A\x07\x06" "\x2B\x06\x01\x02\x01\x0A\x07\x06\x01" "\x2B\x06\x01\x02\x01\x0A\x07\x06\x02"
+    "\x2B\x06\x01\x02\x01\x0A\x07\x07" "\x2B\x06\x01\x02\x01\x0A\x07\x07\x01" "\x2B\x06\x01\x02\x01\x0A\x07\x07\x02"
+    "\x2B\x06\x01\x02\x01\x0A\x07\x09" "\x2B\x06\x01\x02\x01\x0A\x07\x09\x01" "\x2B\x06\x01\x02\x01\x0A\x07\x09\x01\x01"
+    "\x2B\x06\x01\x02\x01\x0A\x07\x09\x01\x02", "\x2B\x06\x01\x02\x01\x0A\x07\x09\x01\x03"
+    "\x2B\x06\x01\x02\x01\x0A\x07\x0A" "\x2B\x06\x01\x02\x01\x0A\x07\x0A\x01" "\x2B\x06\x01\x02\x01\x0A\x07\x0A\x01\x01"
+    "\x2B\x06\x01\x02\x01\x0A\x07\x0A\x01\x02" "\x2B\x06\x01\x02\x01\x0A\x07\x0A\x01\x03"
+    "\x2B\x06\x01\x02\x01\x0A\x07\x0A\x01\x04" "\x2B\x06\x01\x02\x01\x0A\x07\x0A\x01\x05"
+    "\x2B\x06\x01\x02\x01\x0A\x07\x0A\x01\x06" "\x2B\x06\x01\x02\x01\x0A\x07\x0B" "\x2B\x06\x01\x02\x01\x0A\x07\x0B\x01"
+    "\x2B\x06\x01\x02\x01\x0A\x07\x0B\x01\x01" "\x2B\x06\x01\x02\x01\x0A\x07\x0B\x01\x02"
+    "\x2B\x06\x01\x02\x01\x0A\x07\x0B\x01\x03" "\x2B\x06\x01\x02\x01\x0A\x07\x0B\x01\x04"
+    "\x2B\x06\x01\x02\x01\x0A\x07\x0B\x01\x05" "\x2B\x06\x01\x02\x01\x0A\x07\x0B\x01\x06" "\x2B\x06\x01\x02\x01\x0B"
+    "\x2B\x06\x01\x02\x01\x0B\x01" "\x2B\x06\x01\x02\x01\x0B\x02" "\x2B\x06\x01\x02\x01\x0B\x03"
+    "\x2B\x06\x01\x02\x01\x0B\x04" "\x2B\x06\x01\x02\x01\x0B\x05" "\x2B\x06\x01\x02\x01\x0B\x06"
+    "\x2B\x06\x01\x02\x01\x0B\x08" "\x2B\x06\x01\x02\x01\x0B\x09" "\x2B\x06\x01\x02\x01\x0B\x0A"
+    "\x2B\x06\x01\x02\x01\x0B\x0B" "\x2B\x06\x01\x02\x01\x0B\x0C" "\x2B\x06\x01\x02\x01\x0B\x0D"
+    "\x2B\x06\x01\x02\x01\x0B\x0E" "\x2B\x06\x01\x02\x01\x0B\x0F" "\x2B\x06\x01\x02\x01\x0B\x10"
+    "\x2B\x06\x01\x02\x01\x0B\x11" "\x2B\x06\x01\x02\x01\x0B\x12" "\x2B\x06\x01\x02\x01\x0B\x13"
+    "\x2B\x06\x01\x02\x01\x0B\x14" "\x2B\x06\x01\x02\x01\x0B\x15" "\x2B\x06\x01\x02\x01\x0B\x16"
+    "\x2B\x06\x01\x02\x01\x0B\x18" "\x2B\x06\x01\x02\x01\x0B\x19" "\x2B\x06\x01\x02\x01\x0B\x1A"
+    "\x2B\x06\x01\x02\x01\x0B\x1B" "\x2B\x06\x01\x02\x01\x0B\x1C" "\x2B\x06\x01\x02\x01\x0B\x1D"
+    "\x2B\x06\x01\x02\x01\x0B\x1E" "\x2B\x06\x01\x02\x01\x0B\x1F" "\x2B\x06\x01\x02\x01\x0B\x20"
+    "\x2B\x06\x01\x02\x01\x0F" "\x2B\x06\x01\x02\x01\x0F\x00" "\x2B\x06\x01\x02\x01\x0F\x00\x01"
+    "\x2B\x06\x01\x02\x01\x0F\x00\x02" "\x2B\x06\x01\x02\x01\x0F\x01" "\x2B\x06\x01\x02\x01\x0F\x02"
+    "\x2B\x06\x01\x02\x01\x0F\x03" "\x2B\x06\x01\x02\x01\x0F\x03\x01" "\x2B\x06\x01\x02\x01\x0F\x03\x01\x01"
+    "\x2B\x06\x01\x02\x01\x0F\x03\x01\x02" "\x2B\x06\x01\x02\x01\x0F\x03\x01\x03" "\x2B\x06\x01\x02\x01\x0F\x03\x01\x04"
+    "\x2B\x06\x01\x02\x01\x0F\x03\x01\x05" "\x2B\x06\x01\x02\x01\x0F\x03\x01\x06"
+    "\x2B\x06\x01\x02\x01\x0F\x03\x01\x07", "\x2B\x06\x01\x02\x01\x0F\x03\x01\x08"
+    "\x2B\x06\x01\x02\x01\x0F\x03\x01\x09" "\x2B\x06\x01\x02\x01\x0F\x03\x01\x0A" "\x2B\x06\x01\x02\x01\x0F\x03\x01\x0B"
+    "\x2B\x06\x01\x02\x01\x0F\x03\x01\x0C" "\x2B\x06\x01\x02\x01\x0F\x03\x01\x0D" "\x2B\x06\x01\x02\x01\x0F\x03\x01\x0E"
+    "\x2B\x06\x01\x02\x01\x0F\x03\x01\x0F" "\x2B\x06\x01\x02\x01\x0F\x03\x01\x10" "\x2B\x06\x01\x02\x01\x0F\x03\x01\x11"
+    "\x2B\x06\x01\x02\x01\x0F\x03\x01\x12" "\x2B\x06\x01\x02\x01\x0F\x03\x01\x13" "\x2B\x06\x01\x02\x01\x0F\x03\x01\x14"
+    "\x2B\x06\x01\x02\x01\x0F\x03\x01\x15" "\x2B\x06\x01\x02\x01\x0F\x03\x01\x16" "\x2B\x06\x01\x02\x01\x0F\x03\x01\x17"
+    "\x2B\x06\x01\x02\x01\x0F\x03\x01\x18" "\x2B\x06\x01\x02\x01\x0F\x04" "\x2B\x06\x01\x02\x01\x0F\x05"
+    "\x2B\x06\x01\x02\x01\x0F\x05\x01" "\x2B\x06\x01\x02\x01\x0F\x05\x01\x01" "\x2B\x06\x01\x02\x01\x0F\x05\x01\x02"
+    "\x2B\x06\x01\x02\x01\x0F\x05\x01\x03" "\x2B\x06\x01\x02\x01\x0F\x05\x01\x04" "\x2B\x06\x01\x02\x01\x0F\x05\x01\x05"
+    "\x2B\x06\x01\x02\x01\x0F\x05\x01\x06" "\x2B\x06\x01\x02\x01\x0F\x06" "\x2B\x06\x01\x02\x01\x0F\x06\x01"
+    "\x2B\x06\x01\x02\x01\x0F\x06\x01\x01" "\x2B\x06\x01\x02\x01\x0F\x06\x01\x02" "\x2B\x06\x01\x02\x01\x0F\x06\x01\x03"
+    "\x2B\x06\x01\x02\x01\x0F\x06\x01\x04" "\x2B\x06\x01\x02\x01\x0F\x06\x01\x05" "\x2B\x06\x01\x02\x01\x0F\x06\x01\x06"
+    "\x2B\x06\x01\x02\x01\x0F\x06\x01\x07" "\x2B\x06\x01\x02\x01\x0F\x06\x01\x08" "\x2B\x06\x01\x02\x01\x0F\x06\x01\x09"
+    "\x2B\x06\x01\x02\x01\x0F\x06\x01\x0A" "\x2B\x06\x01\x02\x01\x0F\x06\x01\x0B" "\x2B\x06\x01\x02\x01\x0F\x06\x01\x0C"
+    "\x2B\x06\x01\x02\x01\x0F\x06\x01\x0D" "\x2B\x06\x01\x02\x01\x0F\x06\x01\x0E" "\x2B\x06\x01\x02\x01\x0F\x07"
+    "\x2B\x06\x01\x02\x01\x0F\x07\x01" "\x2B\x06\x01\x02\x01\x0F\x07\x02" "\x2B\x06\x01\x02\x01\x10"
+    "\x2B\x06\x01\x02\x01\x10\x00" "\x2B\x06\x01\x02\x01\x10\x00\x01" "\x2B\x06\x01\x02\x01\x10\x00\x02"
+    "\x2B\x06\x01\x02\x01\x10\x01" "\x2B\x06\x01\x02\x01\x10\x01\x01" "\x2B\x06\x01\x02\x01\x10\x01\x01\x01"
+    "\x2B\x06\x01\x02\x01\x10\x01\x01\x01\x01" "\x2B\x06\x01\x02\x01\x10\x01\x01\x01\x02"
+    "\x2B\x06\x01\x02\x01\x10\x01\x01\x01\x03" "\x2B\x06\x01\x02\x01\x10\x01\x01\x01\x04"
+    "\x2B\x06\x01\x02\x01\x10\x01\x01\x01\x05" "\x2B\x06\x01\x02\x01\x10\x01\x01\x01\x06",
+    "\x2B\x06\x01\x02\x01\x10\x01\x01\x01\x07" "\x2B\x06\x01\x02\x01\x10\x01\x01\x01\x08"
+    "\x2B\x06\x01\x02\x01\x10\x01\x01\x01\x09" "\x2B\x06\x01\x02\x01\x10\x01\x01\x01\x0A"
+    "\x2B\x06\x01\x02\x01\x10\x01\x01\x01\x0B" "\x2B\x06\x01\x02\x01\x10\x01\x01\x01\x0C"
+    "\x2B\x06\x01\x02\x01\x10\x01\x01\x01\x0D" "\x2B\x06\x01\x02\x01\x10\x01\x01\x01\x0E"
+    "\x2B\x06\x01\x02\x01\x10\x01\x01\x01\x0F" "\x2B\x06\x01\x02\x01\x10\x01\x01\x01\x10"
+    "\x2B\x06\x01\x02\x01\x10\x01\x01\x01\x11" "\x2B\x06\x01\x02\x01\x10\x01\x01\x01\x12"
+    "\x2B\x06\x01\x02\x01\x10\x01\x01\x01\x13" "\x2B\x06\x01\x02\x01\x10\x01\x01\x01\x14"
+    "\x2B\x06\x01\x02\x01\x10\x01\x01\x01\x15" "\x2B\x06\x01\x02\x01\x10\x02" "\x2B\x06\x01\x02\x01\x10\x02\x01"
+    "\x2B\x06\x01\x02\x01\x10\x02\x01\x01" "\x2B\x06\x01\x02\x01\x10\x02\x01\x01\x01"
+    "\x2B\x06\x01\x02\x01\x10\x02\x01\x01\x02" "\x2B\x06\x01\x02\x01\x10\x02\x01\x01\x03"
+    "\x2B\x06\x01\x02\x01\x10\x02\x01\x01\x04" "\x2B\x06\x01\x02\x01\x10\x02\x01\x01\x05"
+    "\x2B\x06\x01\x02\x01\x10\x02\x01\x01\x06" "\x2B\x06\x01\x02\x01\x10\x02\x01\x01\x07"
+    "\x2B\x06\x01\x02\x01\x10\x02\x02" "\x2B\x06\x01\x02\x01\x10\x02\x02\x01" "\x2B\x06\x01\x02\x01\x10\x02\x02\x01\x01"
+    "\x2B\x06\x01\x02\x01\x10\x02\x02\x01\x02" "\x2B\x06\x01\x02\x01\x10\x02\x02\x01\x03"
+    "\x2B\x06\x01\x02\x01\x10\x02\x02\x01\x04" "\x2B\x06\x01\x02\x01\x10\x02\x02\x01\x05"
+    "\x2B\x06\x01\x02\x01\x10\x02\x02\x01\x06" "\x2B\x06\x01\x02\x01\x10\x02\x02\x01\x07"
+    "\x2B\x06\x01\x02\x01\x10\x02\x02\x01\x08" "\x2B\x06\x01\x02\x01\x10\x02\x02\x01\x09"
+    "\x2B\x06\x01\x02\x01\x10\x02\x02\x01\x0A" "\x2B\x06\x01\x02\x01\x10\x02\x02\x01\x0B"
+    "\x2B\x06\x01\x02\x01\x10\x02\x02\x01\x0C" "\x2B\x06\x01\x02\x01\x10\x02\x02\x01\x0D"
+    "\x2B\x06\x01\x02\x01\x10\x02\x02\x01\x0E" "\x2B\x06\x01\x02\x01\x10\x02\x02\x01\x0F" "\x2B\x06\x01\x02\x01\x10\x03"
+    "\x2B\x06\x01\x02\x01\x10\x03\x01" "\x2B\x06\x01\x02\x01\x10\x03\x01\x01" "\x2B\x06\x01\x02\x01\x10\x03\x01\x01\x01"
+    "\x2B\x06\x01\x02\x01\x10\x03\x01\x01\x02" "\x2B\x06\x01\x02\x01\x10\x03\x01\x01\x03"
+    "\x2B\x06\x01\x02\x01\x10\x03\x01\x01\x04" "\x2B\x06\x01\x02\x01\x10\x03\x01\x01\x05"
+    "\x2B\x06\x01\x02\x01\x10\x03\x01\x01\x06" "\x2B\x06\x01\x02\x01\x10\x03\x01\x01\x07",
+    "\x2B\x06\x01\x02\x01\x10\x03\x01\x01\x08" "\x2B\x06\x01\x02\x01\x10\x03\x01\x01\x09"
+    "\x2B\x06\x01\x02\x01\x10\x03\x01\x01\x0A" "\x2B\x06\x01\x02\x01\x10\x03\x01\x01\x0B"
+    "\x2B\x06\x01\x02\x01\x10\x03\x01\x01\x0C" "\x2B\x06\x01\x02\x01\x10\x04" "\x2B\x06\x01\x02\x01\x10\x04\x01"
+    "\x2B\x06\x01\x02\x01\x10\x04\x01\x01" "\x2B\x06\x01\x02\x01\x10\x04\x01\x01\x01"
+    "\x2B\x06\x01\x02\x01\x10\x04\x01\x01\x02" "\x2B\x06\x01\x02\x01\x10\x04\x01\x01\x03"
+    "\x2B\x06\x01\x02\x01\x10\x04\x01\x01\x04" "\x2B\x06\x01\x02\x01\x10\x04\x01\x01\x05"
+    "\x2B\x06\x01\x02\x01\x10\x04\x01\x01\x06" "\x2B\x06\x01\x02\x01\x10\x04\x02" "\x2B\x06\x01\x02\x01\x10\x04\x02\x01"
+    "\x2B\x06\x01\x02\x01\x10\x04\x02\x01\x01" "\x2B\x06\x01\x02\x01\x10\x04\x02\x01\x02"
+    "\x2B\x06\x01\x02\x01\x10\x04\x02\x01\x03" "\x2B\x06\x01\x02\x01\x10\x04\x02\x01\x04"
+    "\x2B\x06\x01\x02\x01\x10\x04\x02\x01\x05" "\x2B\x06\x01\x02\x01\x10\x04\x02\x01\x06"
+    "\x2B\x06\x01\x02\x01\x10\x04\x02\x01\x07" "\x2B\x06\x01\x02\x01\x10\x04\x02\x01\x08"
+    "\x2B\x06\x01\x02\x01\x10\x04\x02\x01\x09" "\x2B\x06\x01\x02\x01\x10\x04\x02\x01\x0A"
+    "\x2B\x06\x01\x02\x01\x10\x04\x03" "\x2B\x06\x01\x02\x01\x10\x04\x03\x01" "\x2B\x06\x01\x02\x01\x10\x04\x03\x01\x01"
+    "\x2B\x06\x01\x02\x01\x10\x04\x03\x01\x02" "\x2B\x06\x01\x02\x01\x10\x04\x03\x01\x03"
+    "\x2B\x06\x01\x02\x01\x10\x04\x03\x01\x04" "\x2B\x06\x01\x02\x01\x10\x04\x03\x01\x05"
+    "\x2B\x06\x01\x02\x01\x10\x04\x03\x01\x06" "\x2B\x06\x01\x02\x01\x10\x04\x03\x01\x07"
+    "\x2B\x06\x01\x02\x01\x10\x04\x03\x01\x08" "\x2B\x06\x01\x02\x01\x10\x04\x03\x01\x09"
+    "\x2B\x06\x01\x02\x01\x10\x04\x03\x01\x0A" "\x2B\x06\x01\x02\x01\x10\x05" "\x2B\x06\x01\x02\x01\x10\x05\x01"
+    "\x2B\x06\x01\x02\x01\x10\x05\x01\x01" "\x2B\x06\x01\x02\x01\x10\x05\x01\x01\x01"
+    "\x2B\x06\x01\x02\x01\x10\x05\x01\x01\x02" "\x2B\x06\x01\x02\x01\x10\x05\x01\x01\x03"
+    "\x2B\x06\x01\x02\x01\x10\x05\x01\x01\x04" "\x2B\x06\x01\x02\x01\x10\x05\x01\x01\x05"
+    "\x2B\x06\x01\x02\x01\x10\x05\x01\x01\x06" "\x2B\x06\x01\x02\x01\x10\x05\x01\x01\x07"
+    "\x2B\x06\x01\x02\x01\x10\x05\x01\x01\x08" "\x2B\x06\x01\x02\x01\x10\x05\x01\x01\x09"
+    "\x2B\x06\x01\x02\x01\x10\x05\x01\x01\x0A" "\x2B\x06\x01\x02\x01\x10\x05\x02"
+    "\x2B\x06\x01\x02\x01\x10\x05\x02\x01", "\x2B\x06\x01\x02\x01\x10\x05\x02\x01\x01"
+    "\x2B\x06\x01\x02\x01\x10\x05\x02\x01\x02" "\x2B\x06\x01\x02\x01\x10\x05\x02\x01\x03"
+    "\x2B\x06\x01\x02\x01\x10\x05\x02\x01\x04" "\x2B\x06\x01\x02\x01\x10\x06" "\x2B\x06\x01\x02\x01\x10\x06\x01"
+    "\x2B\x06\x01\x02\x01\x10\x06\x01\x01" "\x2B\x06\x01\x02\x01\x10\x06\x01\x01\x01"
+    "\x2B\x06\x01\x02\x01\x10\x06\x01\x01\x02" "\x2B\x06\x01\x02\x01\x10\x06\x01\x01\x03"
+    "\x2B\x06\x01\x02\x01\x10\x06\x01\x01\x04" "\x2B\x06\x01\x02\x01\x10\x06\x01\x01\x05"
+    "\x2B\x06\x01\x02\x01\x10\x06\x01\x01\x06" "\x2B\x06\x01\x02\x01\x10\x06\x02" "\x2B\x06\x01\x02\x01\x10\x06\x02\x01"
+    "\x2B\x06\x01\x02\x01\x10\x06\x02\x01\x01" "\x2B\x06\x01\x02\x01\x10\x06\x02\x01\x02"
+    "\x2B\x06\x01\x02\x01\x10\x06\x02\x01\x03" "\x2B\x06\x01\x02\x01\x10\x06\x02\x01\x04"
+    "\x2B\x06\x01\x02\x01\x10\x06\x02\x01\x05" "\x2B\x06\x01\x02\x01\x10\x06\x02\x01\x06"
+    "\x2B\x06\x01\x02\x01\x10\x06\x03" "\x2B\x06\x01\x02\x01\x10\x06\x03\x01" "\x2B\x06\x01\x02\x01\x10\x06\x03\x01\x01"
+    "\x2B\x06\x01\x02\x01\x10\x06\x03\x01\x02" "\x2B\x06\x01\x02\x01\x10\x06\x03\x01\x03"
+    "\x2B\x06\x01\x02\x01\x10\x06\x03\x01\x04" "\x2B\x06\x01\x02\x01\x10\x06\x03\x01\x05"
+    "\x2B\x06\x01\x02\x01\x10\x06\x03\x01\x06" "\x2B\x06\x01\x02\x01\x10\x07" "\x2B\x06\x01\x02\x01\x10\x07\x01"
+    "\x2B\x06\x01\x02\x01\x10\x07\x01\x01" "\x2B\x06\x01\x02\x01\x10\x07\x01\x01\x01"
+    "\x2B\x06\x01\x02\x01\x10\x07\x01\x01\x02" "\x2B\x06\x01\x02\x01\x10\x07\x01\x01\x03"
+    "\x2B\x06\x01\x02\x01\x10\x07\x01\x01\x04" "\x2B\x06\x01\x02\x01\x10\x07\x01\x01\x05"
+    "\x2B\x06\x01\x02\x01\x10\x07\x01\x01\x06" "\x2B\x06\x01\x02\x01\x10\x07\x01\x01\x07"
+    "\x2B\x06\x01\x02\x01\x10\x07\x01\x01\x08" "\x2B\x06\x01\x02\x01\x10\x07\x01\x01\x09"
+    "\x2B\x06\x01\x02\x01\x10\x07\x01\x01\x0A" "\x2B\x06\x01\x02\x01\x10\x07\x01\x01\x0B"
+    "\x2B\x06\x01\x02\x01\x10\x07\x02" "\x2B\x06\x01\x02\x01\x10\x07\x02\x01" "\x2B\x06\x01\x02\x01\x10\x07\x02\x01\x01"
+    "\x2B\x06\x01\x02\x01\x10\x07\x02\x01\x02" "\x2B\x06\x01\x02\x01\x10\x07\x02\x01\x03"
+    "\x2B\x06\x01\x02\x01\x10\x07\x02\x01\x04" "\x2B\x06\x01\x02\x01\x10\x07\x02\x01\x05"
+    "\x2B\x06\x01\x02\x01\x10\x07\x02\x01\x06" "\x2B\x06\x01\x02\x01\x10\x07\x02\x01\x07"
+    "\x2B\x06\x01\x02\x01\x10\x07\x02\x01\x08", "\x2B\x06\x01\x02\x01\x10\x07\x02\x01\x09"
+    "\x2B\x06\x01\x02\x01\x10\x07\x02\x01\x0A" "\x2B\x06\x01\x02\x01\x10\x07\x02\x01\x0B"
+    "\x2B\x06\x01\x02\x01\x10\x07\x02\x01\x0C" "\x2B\x06\x01\x02\x01\x10\x08" "\x2B\x06\x01\x02\x01\x10\x08\x01"
+    "\x2B\x06\x01\x02\x01\x10\x08\x01\x01" "\x2B\x06\x01\x02\x01\x10\x08\x01\x01\x01"
+    "\x2B\x06\x01\x02\x01\x10\x08\x01\x01\x02" "\x2B\x06\x01\x02\x01\x10\x08\x01\x01\x03"
+    "\x2B\x06\x01\x02\x01\x10\x08\x01\x01\x04" "\x2B\x06\x01\x02\x01\x10\x08\x01\x01\x05"
+    "\x2B\x06\x01\x02\x01\x10\x08\x01\x01\x06" "\x2B\x06\x01\x02\x01\x10\x08\x01\x01\x07"
+    "\x2B\x06\x01\x02\x01\x10\x08\x01\x01\x08" "\x2B\x06\x01\x02\x01\x10\x08\x01\x01\x09"
+    "\x2B\x06\x01\x02\x01\x10\x08\x01\x01\x0A" "\x2B\x06\x01\x02\x01\x10\x08\x01\x01\x0B"
+    "\x2B\x06\x01\x02\x01\x10\x08\x01\x01\x0C" "\x2B\x06\x01\x02\x01\x10\x08\x01\x01\x0D"
+    "\x2B\x06\x01\x02\x01\x10\x08\x02" "\x2B\x06\x01\x02\x01\x10\x08\x02\x01" "\x2B\x06\x01\x02\x01\x10\x08\x02\x01\x01"
+    "\x2B\x06\x01\x02\x01\x10\x08\x02\x01\x02" "\x2B\x06\x01\x02\x01\x10\x08\x02\x01\x03"
+    "\x2B\x06\x01\x02\x01\x10\x08\x02\x01\x04" "\x2B\x06\x01\x02\x01\x10\x08\x02\x01\x05"
+    "\x2B\x06\x01\x02\x01\x10\x08\x02\x01\x06" "\x2B\x06\x01\x02\x01\x10\x08\x02\x01\x07" "\x2B\x06\x01\x02\x01\x10\x09"
+    "\x2B\x06\x01\x02\x01\x10\x09\x01" "\x2B\x06\x01\x02\x01\x10\x09\x01\x01" "\x2B\x06\x01\x02\x01\x10\x09\x01\x01\x01"
+    "\x2B\x06\x01\x02\x01\x10\x09\x01\x01\x02" "\x2B\x06\x01\x02\x01\x10\x09\x01\x01\x03"
+    "\x2B\x06\x01\x02\x01\x10\x09\x01\x01\x04" "\x2B\x06\x01\x02\x01\x10\x09\x01\x01\x05"
+    "\x2B\x06\x01\x02\x01\x10\x09\x01\x01\x06" "\x2B\x06\x01\x02\x01\x10\x09\x01\x01\x07"
+    "\x2B\x06\x01\x02\x01\x10\x09\x02" "\x2B\x06\x01\x02\x01\x10\x09\x02\x01" "\x2B\x06\x01\x02\x01\x10\x09\x02\x01\x01"
+    "\x2B\x06\x01\x02\x01\x10\x09\x02\x01\x02" "\x2B\x06\x01\x02\x01\x10\x09\x02\x01\x03"
+    "\x2B\x06\x01\x02\x01\x10\x09\x02\x01\x04" "\x2B\x06\x01\x02\x01\x10\x14\x08" "\x2B\x06\x01\x02\x01\x11"
     "\x2B\x06\x01\x02\x01\x11\x00" "\x2B\x06\x01\x02\x01\x11\x00\x01" "\x2B\x06\x01\x02\x01\x11\x00\x02"
     "\x2B\x06\x01\x02\x01\x11\x01" "\x2B\x06\x01\x02\x01\x11\x01\x01" "\x2B\x06\x01\x02\x01\x11\x01\x02"
-    "\x2B\x06\x01\x02\x01\x11\x01\x03" "\x2B\x06\x01\x02\x01\x11\x01\x04" "\x2B\x06\x01\x02\x01\x11\x01\x04\x01"
+    "\x2B\x06\x01\x02\x01\x11\x01\x03" "\x2B\x06\x01\x02\x01\x11\x01\x04", "\x2B\x06\x01\x02\x01\x11\x01\x04\x01"
     "\x2B\x06\x01\x02\x01\x11\x01\x04\x01\x01" "\x2B\x06\x01\x02\x01\x11\x01\x04\x01\x02"
     "\x2B\x06\x01\x02\x01\x11\x01\x04\x01\x03" "\x2B\x06\x01\x02\x01\x11\x01\x04\x01\x04"
     "\x2B\x06\x01\x02\x01\x11\x01\x04\x01\x05" "\x2B\x06\x01\x02\x01\x11\x02" "\x2B\x06\x01\x02\x01\x11\x02\x01"
     "\x2B\x06\x01\x02\x01\x11\x02\x02" "\x2B\x06\x01\x02\x01\x11\x02\x03" "\x2B\x06\x01\x02\x01\x11\x02\x04"
-    "\x2B\x06\x01\x02\x01\x11\x02\x05" "\x2B\x06\x01\x02\x01\x11\x02\x06" "\x2B\x06\x01\x02\x01\x11\x02\x07",
+    "\x2B\x06\x01\x02\x01\x11\x02\x05" "\x2B\x06\x01\x02\x01\x11\x02\x06" "\x2B\x06\x01\x02\x01\x11\x02\x07"
     "\x2B\x06\x01\x02\x01\x11\x02\x08" "\x2B\x06\x01\x02\x01\x11\x02\x09" "\x2B\x06\x01\x02\x01\x11\x02\x0A"
     "\x2B\x06\x01\x02\x01\x11\x02\x0B" "\x2B\x06\x01\x02\x01\x11\x02\x0C" "\x2B\x06\x01\x02\x01\x11\x02\x0D"
     "\x2B\x06\x01\x02\x01\x11\x02\x0E" "\x2B\x06\x01\x02\x01\x11\x02\x0F" "\x2B\x06\x01\x02\x01\x11\x02\x0F\x01"
@@ -554,13 +742,13 @@ CONST_OID_TABLE const uint8_t const_oid_common_bytes[][512] = {
     "\x2B\x06\x01\x02\x01\x11\x04\x04\x01\x02" "\x2B\x06\x01\x02\x01\x11\x04\x04\x01\x03"
     "\x2B\x06\x01\x02\x01\x11\x04\x04\x01\x04" "\x2B\x06\x01\x02\x01\x11\x04\x04\x01\x05" "\x2B\x06\x01\x02\x01\x11\x05"
     "\x2B\x06\x01\x02\x01\x11\x05\x01" "\x2B\x06\x01\x02\x01\x11\x05\x01\x01" "\x2B\x06\x01\x02\x01\x11\x05\x01\x01\x01"
-    "\x2B\x06\x01\x02\x01\x11\x05\x01\x01\x02" "\x2B\x06\x01\x02\x01\x11\x05\x01\x01\x03"
+    "\x2B\x06\x01\x02\x01\x11\x05\x01\x01\x02" "\x2B\x06\x01\x02\x01\x11\x05\x01\x01\x03",
     "\x2B\x06\x01\x02\x01\x11\x05\x01\x01\x04" "\x2B\x06\x01\x02\x01\x11\x07" "\x2B\x06\x01\x02\x01\x11\x07\x01"
     "\x2B\x06\x01\x02\x01\x11\x07\x01\x01" "\x2B\x06\x01\x02\x01\x11\x07\x01\x01\x01"
     "\x2B\x06\x01\x02\x01\x11\x07\x01\x01\x02" "\x2B\x06\x01\x02\x01\x11\x07\x01\x01\x03"
     "\x2B\x06\x01\x02\x01\x11\x07\x01\x01\x04" "\x2B\x06\x01\x02\x01\x11\x07\x01\x01\x05"
     "\x2B\x06\x01\x02\x01\x11\x07\x01\x02" "\x2B\x06\x01\x02\x01\x11\x07\x01\x02\x01"
-    "\x2B\x06\x01\x02\x01\x11\x07\x01\x02\x01\x01" "\x2B\x06\x01\x02\x01\x11\x07\x01\x02\x01\x01\x01",
+    "\x2B\x06\x01\x02\x01\x11\x07\x01\x02\x01\x01" "\x2B\x06\x01\x02\x01\x11\x07\x01\x02\x01\x01\x01"
     "\x2B\x06\x01\x02\x01\x11\x07\x01\x02\x01\x01\x02" "\x2B\x06\x01\x02\x01\x11\x07\x01\x02\x02"
     "\x2B\x06\x01\x02\x01\x11\x07\x01\x02\x02\x01" "\x2B\x06\x01\x02\x01\x11\x07\x01\x02\x02\x01\x01"
     "\x2B\x06\x01\x02\x01\x11\x07\x01\x02\x02\x01\x02" "\x2B\x06\x01\x02\x01\x11\x07\x01\x02\x02\x01\x03"
@@ -577,12 +765,12 @@ CONST_OID_TABLE const uint8_t const_oid_common_bytes[][512] = {
     "\x2B\x06\x01\x02\x01\x11\x07\x01\x03\x01\x01\x03" "\x2B\x06\x01\x02\x01\x11\x07\x01\x03\x01\x01\x04"
     "\x2B\x06\x01\x02\x01\x11\x07\x01\x03\x02" "\x2B\x06\x01\x02\x01\x11\x07\x01\x03\x02\x01"
     "\x2B\x06\x01\x02\x01\x11\x07\x01\x03\x02\x01\x01" "\x2B\x06\x01\x02\x01\x11\x07\x01\x03\x02\x01\x02"
-    "\x2B\x06\x01\x02\x01\x11\x07\x01\x03\x02\x01\x03" "\x2B\x06\x01\x02\x01\x11\x07\x01\x03\x02\x01\x04"
+    "\x2B\x06\x01\x02\x01\x11\x07\x01\x03\x02\x01\x03", "\x2B\x06\x01\x02\x01\x11\x07\x01\x03\x02\x01\x04"
     "\x2B\x06\x01\x02\x01\x11\x07\x01\x03\x02\x01\x05" "\x2B\x06\x01\x02\x01\x11\x07\x01\x04"
     "\x2B\x06\x01\x02\x01\x11\x07\x01\x04\x01" "\x2B\x06\x01\x02\x01\x11\x07\x01\x04\x02"
     "\x2B\x06\x01\x02\x01\x11\x07\x01\x04\x02\x01" "\x2B\x06\x01\x02\x01\x11\x07\x01\x04\x02\x01\x01"
     "\x2B\x06\x01\x02\x01\x11\x07\x01\x04\x02\x01\x02" "\x2B\x06\x01\x02\x01\x11\x07\x01\x04\x02\x01\x03"
-    "\x2B\x06\x01\x02\x01\x11\x07\x01\x04\x02\x01\x04" "\x2B\x06\x01\x02\x01\x11\x07\x01\x04\x02\x01\x05",
+    "\x2B\x06\x01\x02\x01\x11\x07\x01\x04\x02\x01\x04" "\x2B\x06\x01\x02\x01\x11\x07\x01\x04\x02\x01\x05"
     "\x2B\x06\x01\x02\x01\x11\x07\x01\x04\x02\x01\x06" "\x2B\x06\x01\x02\x01\x11\x07\x01\x04\x02\x01\x07"
     "\x2B\x06\x01\x02\x01\x11\x07\x01\x04\x03" "\x2B\x06\x01\x02\x01\x11\x07\x01\x04\x03\x01"
     "\x2B\x06\x01\x02\x01\x11\x07\x01\x04\x03\x01\x01" "\x2B\x06\x01\x02\x01\x11\x07\x01\x04\x03\x01\x02"
@@ -599,12 +787,12 @@ CONST_OID_TABLE const uint8_t const_oid_common_bytes[][512] = {
     "\x2B\x06\x01\x02\x01\x11\x07\x01\x04\x06\x01\x06" "\x2B\x06\x01\x02\x01\x11\x07\x01\x04\x07"
     "\x2B\x06\x01\x02\x01\x11\x07\x01\x04\x07\x01" "\x2B\x06\x01\x02\x01\x11\x07\x01\x04\x07\x01\x01"
     "\x2B\x06\x01\x02\x01\x11\x07\x01\x04\x07\x01\x02" "\x2B\x06\x01\x02\x01\x11\x07\x01\x04\x07\x01\x03"
-    "\x2B\x06\x01\x02\x01\x11\x07\x01\x04\x08" "\x2B\x06\x01\x02\x01\x11\x07\x01\x04\x08\x01"
+    "\x2B\x06\x01\x02\x01\x11\x07\x01\x04\x08", "\x2B\x06\x01\x02\x01\x11\x07\x01\x04\x08\x01"
     "\x2B\x06\x01\x02\x01\x11\x07\x01\x04\x08\x01\x01" "\x2B\x06\x01\x02\x01\x11\x07\x01\x04\x08\x01\x02"
     "\x2B\x06\x01\x02\x01\x11\x07\x01\x04\x08\x01\x03" "\x2B\x06\x01\x02\x01\x11\x07\x01\x04\x08\x01\x04"
     "\x2B\x06\x01\x02\x01\x11\x07\x01\x04\x09" "\x2B\x06\x01\x02\x01\x11\x07\x01\x04\x0A"
     "\x2B\x06\x01\x02\x01\x11\x07\x01\x05" "\x2B\x06\x01\x02\x01\x11\x07\x01\x05\x01"
-    "\x2B\x06\x01\x02\x01\x11\x07\x01\x05\x01\x01" "\x2B\x06\x01\x02\x01\x11\x07\x01\x05\x01\x01\x01",
+    "\x2B\x06\x01\x02\x01\x11\x07\x01\x05\x01\x01" "\x2B\x06\x01\x02\x01\x11\x07\x01\x05\x01\x01\x01"
     "\x2B\x06\x01\x02\x01\x11\x07\x01\x05\x01\x01\x02" "\x2B\x06\x01\x02\x01\x11\x07\x01\x05\x01\x01\x03"
     "\x2B\x06\x01\x02\x01\x11\x07\x01\x05\x01\x01\x04" "\x2B\x06\x01\x02\x01\x11\x07\x01\x05\x02"
     "\x2B\x06\x01\x02\x01\x11\x07\x01\x05\x02\x01" "\x2B\x06\x01\x02\x01\x11\x07\x01\x05\x02\x01\x01"
@@ -621,63 +809,200 @@ CONST_OID_TABLE const uint8_t const_oid_common_bytes[][512] = {
     "\x2B\x06\x01\x02\x01\x19\x03\x02\x01\x01" "\x2B\x06\x01\x02\x01\x19\x03\x02\x01\x02"
     "\x2B\x06\x01\x02\x01\x19\x03\x02\x01\x03" "\x2B\x06\x01\x02\x01\x19\x03\x02\x01\x04"
     "\x2B\x06\x01\x02\x01\x19\x03\x02\x01\x05" "\x2B\x06\x01\x02\x01\x19\x03\x02\x01\x06"
-    "\x2B\x06\x01\x02\x01\x19\x03\x03" "\x2B\x06\x01\x02\x01\x19\x03\x03\x01" "\x2B\x06\x01\x02\x01\x19\x03\x03\x01\x01"
-    "\x2B\x06\x01\x02\x01\x19\x03\x03\x01\x02" "\x2B\x06\x01\x02\x01\x19\x03\x04" "\x2B\x06\x01\x02\x01\x19\x03\x04\x01"
-    "\x2B\x06\x01\x02\x01\x19\x03\x04\x01\x01" "\x2B\x06\x01\x02\x01\x19\x03\x05" "\x2B\x06\x01\x02\x01\x19\x03\x05\x01"
-    "\x2B\x06\x01\x02\x01\x19\x03\x05\x01\x01" "\x2B\x06\x01\x02\x01\x19\x03\x05\x01\x02"
-    "\x2B\x06\x01\x02\x01\x19\x03\x06" "\x2B\x06\x01\x02\x01\x19\x03\x06\x01" "\x2B\x06\x01\x02\x01\x19\x03\x06\x01\x01"
-    "\x2B\x06\x01\x02\x01\x19\x03\x06\x01\x02", "\x2B\x06\x01\x02\x01\x19\x03\x06\x01\x03"
-    "\x2B\x06\x01\x02\x01\x19\x03\x06\x01\x04" "\x2B\x06\x01\x02\x01\x19\x03\x07" "\x2B\x06\x01\x02\x01\x19\x03\x07\x01"
-    "\x2B\x06\x01\x02\x01\x19\x03\x07\x01\x01" "\x2B\x06\x01\x02\x01\x19\x03\x07\x01\x02"
-    "\x2B\x06\x01\x02\x01\x19\x03\x07\x01\x03" "\x2B\x06\x01\x02\x01\x19\x03\x07\x01\x04"
-    "\x2B\x06\x01\x02\x01\x19\x03\x07\x01\x05" "\x2B\x06\x01\x02\x01\x19\x03\x08" "\x2B\x06\x01\x02\x01\x19\x03\x08\x01"
-    "\x2B\x06\x01\x02\x01\x19\x03\x08\x01\x01" "\x2B\x06\x01\x02\x01\x19\x03\x08\x01\x02"
-    "\x2B\x06\x01\x02\x01\x19\x03\x08\x01\x03" "\x2B\x06\x01\x02\x01\x19\x03\x08\x01\x04"
-    "\x2B\x06\x01\x02\x01\x19\x03\x08\x01\x05" "\x2B\x06\x01\x02\x01\x19\x03\x08\x01\x06"
-    "\x2B\x06\x01\x02\x01\x19\x03\x08\x01\x07" "\x2B\x06\x01\x02\x01\x19\x03\x08\x01\x08"
-    "\x2B\x06\x01\x02\x01\x19\x03\x08\x01\x09" "\x2B\x06\x01\x02\x01\x19\x03\x09" "\x2B\x06\x01\x02\x01\x19\x04"
-    "\x2B\x06\x01\x02\x01\x19\x04\x01" "\x2B\x06\x01\x02\x01\x19\x04\x02" "\x2B\x06\x01\x02\x01\x19\x04\x02\x01"
-    "\x2B\x06\x01\x02\x01\x19\x04\x02\x01\x01" "\x2B\x06\x01\x02\x01\x19\x04\x02\x01\x02"
-    "\x2B\x06\x01\x02\x01\x19\x04\x02\x01\x03" "\x2B\x06\x01\x02\x01\x19\x04\x02\x01\x04"
-    "\x2B\x06\x01\x02\x01\x19\x04\x02\x01\x05" "\x2B\x06\x01\x02\x01\x19\x04\x02\x01\x06"
-    "\x2B\x06\x01\x02\x01\x19\x04\x02\x01\x07" "\x2B\x06\x01\x02\x01\x19\x05" "\x2B\x06\x01\x02\x01\x19\x05\x01"
-    "\x2B\x06\x01\x02\x01\x19\x05\x01\x01" "\x2B\x06\x01\x02\x01\x19\x05\x01\x01\x01"
+    "\x2B\x06\x01\x02\x01\x19\x03\x03" "\x2B\x06\x01\x02\x01\x19\x03\x03\x01",
+    "\x2B\x06\x01\x02\x01\x19\x03\x03\x01\x01" "\x2B\x06\x01\x02\x01\x19\x03\x03\x01\x02"
+    "\x2B\x06\x01\x02\x01\x19\x03\x04" "\x2B\x06\x01\x02\x01\x19\x03\x04\x01" "\x2B\x06\x01\x02\x01\x19\x03\x04\x01\x01"
+    "\x2B\x06\x01\x02\x01\x19\x03\x05" "\x2B\x06\x01\x02\x01\x19\x03\x05\x01" "\x2B\x06\x01\x02\x01\x19\x03\x05\x01\x01"
+    "\x2B\x06\x01\x02\x01\x19\x03\x05\x01\x02" "\x2B\x06\x01\x02\x01\x19\x03\x06" "\x2B\x06\x01\x02\x01\x19\x03\x06\x01"
+    "\x2B\x06\x01\x02\x01\x19\x03\x06\x01\x01" "\x2B\x06\x01\x02\x01\x19\x03\x06\x01\x02"
+    "\x2B\x06\x01\x02\x01\x19\x03\x06\x01\x03" "\x2B\x06\x01\x02\x01\x19\x03\x06\x01\x04"
+    "\x2B\x06\x01\x02\x01\x19\x03\x07" "\x2B\x06\x01\x02\x01\x19\x03\x07\x01" "\x2B\x06\x01\x02\x01\x19\x03\x07\x01\x01"
+    "\x2B\x06\x01\x02\x01\x19\x03\x07\x01\x02" "\x2B\x06\x01\x02\x01\x19\x03\x07\x01\x03"
+    "\x2B\x06\x01\x02\x01\x19\x03\x07\x01\x04" "\x2B\x06\x01\x02\x01\x19\x03\x07\x01\x05"
+    "\x2B\x06\x01\x02\x01\x19\x03\x08" "\x2B\x06\x01\x02\x01\x19\x03\x08\x01" "\x2B\x06\x01\x02\x01\x19\x03\x08\x01\x01"
+    "\x2B\x06\x01\x02\x01\x19\x03\x08\x01\x02" "\x2B\x06\x01\x02\x01\x19\x03\x08\x01\x03"
+    "\x2B\x06\x01\x02\x01\x19\x03\x08\x01\x04" "\x2B\x06\x01\x02\x01\x19\x03\x08\x01\x05"
+    "\x2B\x06\x01\x02\x01\x19\x03\x08\x01\x06" "\x2B\x06\x01\x02\x01\x19\x03\x08\x01\x07"
+    "\x2B\x06\x01\x02\x01\x19\x03\x08\x01\x08" "\x2B\x06\x01\x02\x01\x19\x03\x08\x01\x09"
+    "\x2B\x06\x01\x02\x01\x19\x03\x09" "\x2B\x06\x01\x02\x01\x19\x04" "\x2B\x06\x01\x02\x01\x19\x04\x01"
+    "\x2B\x06\x01\x02\x01\x19\x04\x02" "\x2B\x06\x01\x02\x01\x19\x04\x02\x01" "\x2B\x06\x01\x02\x01\x19\x04\x02\x01\x01"
+    "\x2B\x06\x01\x02\x01\x19\x04\x02\x01\x02" "\x2B\x06\x01\x02\x01\x19\x04\x02\x01\x03"
+    "\x2B\x06\x01\x02\x01\x19\x04\x02\x01\x04" "\x2B\x06\x01\x02\x01\x19\x04\x02\x01\x05"
+    "\x2B\x06\x01\x02\x01\x19\x04\x02\x01\x06" "\x2B\x06\x01\x02\x01\x19\x04\x02\x01\x07" "\x2B\x06\x01\x02\x01\x19\x05"
+    "\x2B\x06\x01\x02\x01\x19\x05\x01" "\x2B\x06\x01\x02\x01\x19\x05\x01\x01" "\x2B\x06\x01\x02\x01\x19\x05\x01\x01\x01"
     "\x2B\x06\x01\x02\x01\x19\x05\x01\x01\x02" "\x2B\x06\x01\x02\x01\x19\x06" "\x2B\x06\x01\x02\x01\x19\x06\x01"
-    "\x2B\x06\x01\x02\x01\x19\x06\x02" "\x2B\x06\x01\x02\x01\x19\x06\x03" "\x2B\x06\x01\x02\x01\x19\x06\x03\x01"
+    "\x2B\x06\x01\x02\x01\x19\x06\x02" "\x2B\x06\x01\x02\x01\x19\x06\x03" "\x2B\x06\x01\x02\x01\x19\x06\x03\x01",
     "\x2B\x06\x01\x02\x01\x19\x06\x03\x01\x01" "\x2B\x06\x01\x02\x01\x19\x06\x03\x01\x02"
     "\x2B\x06\x01\x02\x01\x19\x06\x03\x01\x03" "\x2B\x06\x01\x02\x01\x19\x06\x03\x01\x04"
     "\x2B\x06\x01\x02\x01\x19\x06\x03\x01\x05" "\x2B\x06\x01\x02\x01\x19\x07" "\x2B\x06\x01\x02\x01\x19\x07\x01"
     "\x2B\x06\x01\x02\x01\x19\x07\x02" "\x2B\x06\x01\x02\x01\x19\x07\x02\x01" "\x2B\x06\x01\x02\x01\x19\x07\x03"
-    "\x2B\x06\x01\x02\x01\x19\x07\x03\x01" "\x2B\x06\x01\x02\x01\x19\x07\x03\x02"
-    "\x2B\x06\x01\x02\x01\x19\x07\x03\x03", "\x2B\x06\x01\x02\x01\x19\x07\x03\x04"
-    "\x2B\x06\x01\x02\x01\x19\x07\x03\x05" "\x2B\x06\x01\x02\x01\x19\x07\x03\x06" "\x2B\x06\x01\x02\x01\x1F"
-    "\x2B\x06\x01\x02\x01\x1F\x01" "\x2B\x06\x01\x02\x01\x1F\x01\x01" "\x2B\x06\x01\x02\x01\x1F\x01\x01\x01"
-    "\x2B\x06\x01\x02\x01\x1F\x01\x01\x01\x01" "\x2B\x06\x01\x02\x01\x1F\x01\x01\x01\x02"
-    "\x2B\x06\x01\x02\x01\x1F\x01\x01\x01\x03" "\x2B\x06\x01\x02\x01\x1F\x01\x01\x01\x04"
-    "\x2B\x06\x01\x02\x01\x1F\x01\x01\x01\x05" "\x2B\x06\x01\x02\x01\x1F\x01\x01\x01\x06"
-    "\x2B\x06\x01\x02\x01\x1F\x01\x01\x01\x07" "\x2B\x06\x01\x02\x01\x1F\x01\x01\x01\x08"
-    "\x2B\x06\x01\x02\x01\x1F\x01\x01\x01\x09" "\x2B\x06\x01\x02\x01\x1F\x01\x01\x01\x0A"
-    "\x2B\x06\x01\x02\x01\x1F\x01\x01\x01\x0B" "\x2B\x06\x01\x02\x01\x1F\x01\x01\x01\x0C"
-    "\x2B\x06\x01\x02\x01\x1F\x01\x01\x01\x0D" "\x2B\x06\x01\x02\x01\x1F\x01\x01\x01\x0E"
-    "\x2B\x06\x01\x02\x01\x1F\x01\x01\x01\x0F" "\x2B\x06\x01\x02\x01\x1F\x01\x01\x01\x10"
-    "\x2B\x06\x01\x02\x01\x1F\x01\x01\x01\x11" "\x2B\x06\x01\x02\x01\x1F\x01\x01\x01\x12"
-    "\x2B\x06\x01\x02\x01\x1F\x01\x01\x01\x13" "\x2B\x06\x01\x02\x01\x1F\x01\x02" "\x2B\x06\x01\x02\x01\x1F\x01\x02\x01"
-    "\x2B\x06\x01\x02\x01\x1F\x01\x02\x01\x01" "\x2B\x06\x01\x02\x01\x1F\x01\x02\x01\x02"
-    "\x2B\x06\x01\x02\x01\x1F\x01\x02\x01\x03" "\x2B\x06\x01\x02\x01\x1F\x01\x03" "\x2B\x06\x01\x02\x01\x1F\x01\x03\x01"
-    "\x2B\x06\x01\x02\x01\x1F\x01\x03\x01\x01" "\x2B\x06\x01\x02\x01\x1F\x01\x03\x01\x02"
-    "\x2B\x06\x01\x02\x01\x1F\x01\x03\x01\x03" "\x2B\x06\x01\x02\x01\x1F\x01\x03\x01\x04"
-    "\x2B\x06\x01\x02\x01\x1F\x01\x03\x01\x05" "\x2B\x06\x01\x02\x01\x1F\x01\x03\x01\x06"
-    "\x2B\x06\x01\x02\x01\x1F\x01\x04" "\x2B\x06\x01\x02\x01\x1F\x01\x04\x01" "\x2B\x06\x01\x02\x01\x1F\x01\x04\x01\x01"
+    "\x2B\x06\x01\x02\x01\x19\x07\x03\x01" "\x2B\x06\x01\x02\x01\x19\x07\x03\x02" "\x2B\x06\x01\x02\x01\x19\x07\x03\x03"
+    "\x2B\x06\x01\x02\x01\x19\x07\x03\x04" "\x2B\x06\x01\x02\x01\x19\x07\x03\x05" "\x2B\x06\x01\x02\x01\x19\x07\x03\x06"
+    "\x2B\x06\x01\x02\x01\x1F" "\x2B\x06\x01\x02\x01\x1F\x01" "\x2B\x06\x01\x02\x01\x1F\x01\x01"
+    "\x2B\x06\x01\x02\x01\x1F\x01\x01\x01" "\x2B\x06\x01\x02\x01\x1F\x01\x01\x01\x01"
+    "\x2B\x06\x01\x02\x01\x1F\x01\x01\x01\x02" "\x2B\x06\x01\x02\x01\x1F\x01\x01\x01\x03"
+    "\x2B\x06\x01\x02\x01\x1F\x01\x01\x01\x04" "\x2B\x06\x01\x02\x01\x1F\x01\x01\x01\x05"
+    "\x2B\x06\x01\x02\x01\x1F\x01\x01\x01\x06" "\x2B\x06\x01\x02\x01\x1F\x01\x01\x01\x07"
+    "\x2B\x06\x01\x02\x01\x1F\x01\x01\x01\x08" "\x2B\x06\x01\x02\x01\x1F\x01\x01\x01\x09"
+    "\x2B\x06\x01\x02\x01\x1F\x01\x01\x01\x0A" "\x2B\x06\x01\x02\x01\x1F\x01\x01\x01\x0B"
+    "\x2B\x06\x01\x02\x01\x1F\x01\x01\x01\x0C" "\x2B\x06\x01\x02\x01\x1F\x01\x01\x01\x0D"
+    "\x2B\x06\x01\x02\x01\x1F\x01\x01\x01\x0E" "\x2B\x06\x01\x02\x01\x1F\x01\x01\x01\x0F"
+    "\x2B\x06\x01\x02\x01\x1F\x01\x01\x01\x10" "\x2B\x06\x01\x02\x01\x1F\x01\x01\x01\x11"
+    "\x2B\x06\x01\x02\x01\x1F\x01\x01\x01\x12" "\x2B\x06\x01\x02\x01\x1F\x01\x01\x01\x13"
+    "\x2B\x06\x01\x02\x01\x1F\x01\x02" "\x2B\x06\x01\x02\x01\x1F\x01\x02\x01" "\x2B\x06\x01\x02\x01\x1F\x01\x02\x01\x01"
+    "\x2B\x06\x01\x02\x01\x1F\x01\x02\x01\x02" "\x2B\x06\x01\x02\x01\x1F\x01\x02\x01\x03"
+    "\x2B\x06\x01\x02\x01\x1F\x01\x03" "\x2B\x06\x01\x02\x01\x1F\x01\x03\x01" "\x2B\x06\x01\x02\x01\x1F\x01\x03\x01\x01"
+    "\x2B\x06\x01\x02\x01\x1F\x01\x03\x01\x02" "\x2B\x06\x01\x02\x01\x1F\x01\x03\x01\x03"
+    "\x2B\x06\x01\x02\x01\x1F\x01\x03\x01\x04" "\x2B\x06\x01\x02\x01\x1F\x01\x03\x01\x05"
+    "\x2B\x06\x01\x02\x01\x1F\x01\x03\x01\x06" "\x2B\x06\x01\x02\x01\x1F\x01\x04"
+    "\x2B\x06\x01\x02\x01\x1F\x01\x04\x01", "\x2B\x06\x01\x02\x01\x1F\x01\x04\x01\x01"
     "\x2B\x06\x01\x02\x01\x1F\x01\x04\x01\x02" "\x2B\x06\x01\x02\x01\x1F\x01\x04\x01\x03"
     "\x2B\x06\x01\x02\x01\x1F\x01\x05" "\x2B\x06\x01\x02\x01\x1F\x01\x06" "\x2B\x06\x01\x02\x01\x1F\x02"
     "\x2B\x06\x01\x02\x01\x1F\x02\x01" "\x2B\x06\x01\x02\x01\x1F\x02\x01\x01" "\x2B\x06\x01\x02\x01\x1F\x02\x01\x02"
     "\x2B\x06\x01\x02\x01\x1F\x02\x01\x03" "\x2B\x06\x01\x02\x01\x1F\x02\x01\x04" "\x2B\x06\x01\x02\x01\x1F\x02\x01\x05"
-    "\x2B\x06\x01\x02\x01\x1F\x02\x01\x06", "\x2B\x06\x01\x02\x01\x1F\x02\x01\x07"
-    "\x2B\x06\x01\x02\x01\x1F\x02\x01\x08" "\x2B\x06\x01\x02\x01\x1F\x02\x01\x09" "\x2B\x06\x01\x02\x01\x1F\x02\x01\x0A"
-    "\x2B\x06\x01\x02\x01\x1F\x02\x01\x0B" "\x2B\x06\x01\x02\x01\x1F\x02\x01\x0C" "\x2B\x06\x01\x02\x01\x1F\x02\x01\x0D"
-    "\x2B\x06\x01\x02\x01\x1F\x02\x01\x0E" "\x2B\x06\x01\x02\x01\x1F\x02\x02" "\x2B\x06\x01\x02\x01\x1F\x02\x02\x01"
-    "\x2B\x06\x01\x02\x01\x1F\x02\x02\x02" "\x2B\x06\x01\x02\x01\x1F\x02\x02\x03" "\x2B\x06\x01\x02\x01\x23"
-    "\x2B\x06\x01\x02\x01\x23\x01" "\x2B\x06\x01\x02\x01\x2F" "\x2B\x06\x01\x02\x01\x2F\x01"
+    "\x2B\x06\x01\x02\x01\x1F\x02\x01\x06" "\x2B\x06\x01\x02\x01\x1F\x02\x01\x07" "\x2B\x06\x01\x02\x01\x1F\x02\x01\x08"
+    "\x2B\x06\x01\x02\x01\x1F\x02\x01\x09" "\x2B\x06\x01\x02\x01\x1F\x02\x01\x0A" "\x2B\x06\x01\x02\x01\x1F\x02\x01\x0B"
+    "\x2B\x06\x01\x02\x01\x1F\x02\x01\x0C" "\x2B\x06\x01\x02\x01\x1F\x02\x01\x0D" "\x2B\x06\x01\x02\x01\x1F\x02\x01\x0E"
+    "\x2B\x06\x01\x02\x01\x1F\x02\x02" "\x2B\x06\x01\x02\x01\x1F\x02\x02\x01" "\x2B\x06\x01\x02\x01\x1F\x02\x02\x02"
+    "\x2B\x06\x01\x02\x01\x1F\x02\x02\x03" "\x2B\x06\x01\x02\x01\x21" "\x2B\x06\x01\x02\x01\x21\x01"
+    "\x2B\x06\x01\x02\x01\x21\x01\x01" "\x2B\x06\x01\x02\x01\x21\x01\x01\x01" "\x2B\x06\x01\x02\x01\x21\x01\x01\x02"
+    "\x2B\x06\x01\x02\x01\x21\x01\x01\x03" "\x2B\x06\x01\x02\x01\x21\x01\x01\x04" "\x2B\x06\x01\x02\x01\x21\x01\x01\x05"
+    "\x2B\x06\x01\x02\x01\x21\x01\x01\x06" "\x2B\x06\x01\x02\x01\x21\x01\x02" "\x2B\x06\x01\x02\x01\x21\x01\x02\x01"
+    "\x2B\x06\x01\x02\x01\x21\x01\x02\x02" "\x2B\x06\x01\x02\x01\x21\x01\x02\x03" "\x2B\x06\x01\x02\x01\x21\x01\x02\x04"
+    "\x2B\x06\x01\x02\x01\x21\x01\x02\x05" "\x2B\x06\x01\x02\x01\x21\x01\x02\x06" "\x2B\x06\x01\x02\x01\x21\x01\x02\x07"
+    "\x2B\x06\x01\x02\x01\x21\x01\x03" "\x2B\x06\x01\x02\x01\x21\x01\x03\x01" "\x2B\x06\x01\x02\x01\x21\x01\x03\x02"
+    "\x2B\x06\x01\x02\x01\x21\x01\x03\x03" "\x2B\x06\x01\x02\x01\x21\x01\x03\x03\x01"
+    "\x2B\x06\x01\x02\x01\x21\x01\x03\x03\x01\x01" "\x2B\x06\x01\x02\x01\x21\x01\x03\x03\x01\x02"
+    "\x2B\x06\x01\x02\x01\x21\x01\x03\x03\x01\x03" "\x2B\x06\x01\x02\x01\x21\x01\x03\x03\x01\x04"
+    "\x2B\x06\x01\x02\x01\x21\x01\x03\x03\x01\x05" "\x2B\x06\x01\x02\x01\x21\x01\x04"
+    "\x2B\x06\x01\x02\x01\x21\x01\x04\x01" "\x2B\x06\x01\x02\x01\x21\x01\x04\x02"
+    "\x2B\x06\x01\x02\x01\x21\x01\x04\x03", "\x2B\x06\x01\x02\x01\x21\x01\x04\x04"
+    "\x2B\x06\x01\x02\x01\x21\x01\x04\x04\x01" "\x2B\x06\x01\x02\x01\x21\x01\x04\x04\x01\x01"
+    "\x2B\x06\x01\x02\x01\x21\x01\x04\x04\x01\x02" "\x2B\x06\x01\x02\x01\x21\x01\x04\x04\x01\x03"
+    "\x2B\x06\x01\x02\x01\x21\x01\x04\x04\x01\x04" "\x2B\x06\x01\x02\x01\x21\x01\x04\x04\x01\x05"
+    "\x2B\x06\x01\x02\x01\x21\x01\x05" "\x2B\x06\x01\x02\x01\x21\x01\x05\x01" "\x2B\x06\x01\x02\x01\x21\x01\x05\x02"
+    "\x2B\x06\x01\x02\x01\x21\x01\x05\x03" "\x2B\x06\x01\x02\x01\x21\x01\x05\x03\x01"
+    "\x2B\x06\x01\x02\x01\x21\x01\x05\x03\x01\x01" "\x2B\x06\x01\x02\x01\x21\x01\x05\x03\x01\x02"
+    "\x2B\x06\x01\x02\x01\x21\x01\x05\x03\x01\x03" "\x2B\x06\x01\x02\x01\x21\x01\x05\x03\x01\x04"
+    "\x2B\x06\x01\x02\x01\x21\x01\x06" "\x2B\x06\x01\x02\x01\x21\x01\x06\x01" "\x2B\x06\x01\x02\x01\x21\x01\x06\x02"
+    "\x2B\x06\x01\x02\x01\x21\x01\x06\x02\x01" "\x2B\x06\x01\x02\x01\x21\x01\x06\x02\x01\x01"
+    "\x2B\x06\x01\x02\x01\x21\x01\x06\x02\x01\x02" "\x2B\x06\x01\x02\x01\x21\x01\x06\x02\x01\x03"
+    "\x2B\x06\x01\x02\x01\x21\x01\x06\x03" "\x2B\x06\x01\x02\x01\x21\x01\x06\x03\x01"
+    "\x2B\x06\x01\x02\x01\x21\x01\x06\x03\x02" "\x2B\x06\x01\x02\x01\x21\x01\x06\x03\x03"
+    "\x2B\x06\x01\x02\x01\x21\x01\x06\x03\x04" "\x2B\x06\x01\x02\x01\x21\x01\x06\x03\x05"
+    "\x2B\x06\x01\x02\x01\x21\x01\x06\x03\x06" "\x2B\x06\x01\x02\x01\x21\x01\x06\x03\x07"
+    "\x2B\x06\x01\x02\x01\x21\x01\x06\x03\x08" "\x2B\x06\x01\x02\x01\x21\x01\x06\x03\x09"
+    "\x2B\x06\x01\x02\x01\x21\x01\x06\x03\x0A" "\x2B\x06\x01\x02\x01\x21\x01\x06\x03\x0B"
+    "\x2B\x06\x01\x02\x01\x21\x01\x06\x03\x0C" "\x2B\x06\x01\x02\x01\x21\x01\x06\x03\x0D"
+    "\x2B\x06\x01\x02\x01\x21\x01\x06\x03\x0E" "\x2B\x06\x01\x02\x01\x21\x01\x06\x03\x0F"
+    "\x2B\x06\x01\x02\x01\x21\x01\x06\x03\x10" "\x2B\x06\x01\x02\x01\x21\x01\x06\x03\x11"
+    "\x2B\x06\x01\x02\x01\x21\x01\x06\x03\x12" "\x2B\x06\x01\x02\x01\x21\x01\x06\x03\x13"
+    "\x2B\x06\x01\x02\x01\x21\x01\x06\x03\x14" "\x2B\x06\x01\x02\x01\x21\x01\x06\x03\x15"
+    "\x2B\x06\x01\x02\x01\x21\x01\x06\x03\x16" "\x2B\x06\x01\x02\x01\x21\x01\x06\x03\x17"
+    "\x2B\x06\x01\x02\x01\x21\x01\x06\x03\x18" "\x2B\x06\x01\x02\x01\x21\x01\x07" "\x2B\x06\x01\x02\x01\x21\x01\x07\x01"
+    "\x2B\x06\x01\x02\x01\x21\x01\x07\x02", "\x2B\x06\x01\x02\x01\x21\x01\x07\x03"
+    "\x2B\x06\x01\x02\x01\x21\x01\x07\x04" "\x2B\x06\x01\x02\x01\x21\x01\x07\x05" "\x2B\x06\x01\x02\x01\x21\x01\x07\x06"
+    "\x2B\x06\x01\x02\x01\x21\x01\x07\x07" "\x2B\x06\x01\x02\x01\x21\x01\x07\x07\x01"
+    "\x2B\x06\x01\x02\x01\x21\x01\x07\x07\x02" "\x2B\x06\x01\x02\x01\x21\x01\x07\x07\x03"
+    "\x2B\x06\x01\x02\x01\x21\x01\x07\x07\x04" "\x2B\x06\x01\x02\x01\x21\x01\x07\x07\x05"
+    "\x2B\x06\x01\x02\x01\x21\x01\x08" "\x2B\x06\x01\x02\x01\x21\x01\x08\x01" "\x2B\x06\x01\x02\x01\x21\x01\x08\x02"
+    "\x2B\x06\x01\x02\x01\x21\x01\x08\x03" "\x2B\x06\x01\x02\x01\x21\x01\x08\x04" "\x2B\x06\x01\x02\x01\x21\x01\x08\x05"
+    "\x2B\x06\x01\x02\x01\x21\x01\x09" "\x2B\x06\x01\x02\x01\x21\x01\x09\x01" "\x2B\x06\x01\x02\x01\x21\x01\x09\x02"
+    "\x2B\x06\x01\x02\x01\x21\x01\x09\x03" "\x2B\x06\x01\x02\x01\x21\x01\x09\x04" "\x2B\x06\x01\x02\x01\x21\x01\x09\x05"
+    "\x2B\x06\x01\x02\x01\x21\x01\x09\x06" "\x2B\x06\x01\x02\x01\x21\x01\x09\x07" "\x2B\x06\x01\x02\x01\x21\x01\x09\x08"
+    "\x2B\x06\x01\x02\x01\x21\x01\x09\x09" "\x2B\x06\x01\x02\x01\x21\x01\x09\x0A" "\x2B\x06\x01\x02\x01\x21\x02"
+    "\x2B\x06\x01\x02\x01\x21\x02\x01" "\x2B\x06\x01\x02\x01\x21\x02\x02" "\x2B\x06\x01\x02\x01\x21\x02\x03"
+    "\x2B\x06\x01\x02\x01\x21\x02\x04" "\x2B\x06\x01\x02\x01\x23" "\x2B\x06\x01\x02\x01\x23\x01"
+    "\x2B\x06\x01\x02\x01\x2B" "\x2B\x06\x01\x02\x01\x2B\x05" "\x2B\x06\x01\x02\x01\x2B\x05\x01"
+    "\x2B\x06\x01\x02\x01\x2B\x05\x01\x01" "\x2B\x06\x01\x02\x01\x2B\x05\x01\x01\x01"
+    "\x2B\x06\x01\x02\x01\x2B\x05\x01\x01\x02" "\x2B\x06\x01\x02\x01\x2B\x05\x01\x01\x03"
+    "\x2B\x06\x01\x02\x01\x2B\x05\x01\x01\x04" "\x2B\x06\x01\x02\x01\x2B\x05\x01\x01\x05"
+    "\x2B\x06\x01\x02\x01\x2B\x05\x01\x01\x06" "\x2B\x06\x01\x02\x01\x2B\x05\x01\x01\x07"
+    "\x2B\x06\x01\x02\x01\x2B\x05\x01\x01\x08" "\x2B\x06\x01\x02\x01\x2B\x05\x01\x01\x09"
+    "\x2B\x06\x01\x02\x01\x2B\x05\x01\x01\x0A" "\x2B\x06\x01\x02\x01\x2B\x05\x01\x01\x0B"
+    "\x2B\x06\x01\x02\x01\x2B\x05\x01\x01\x0C" "\x2B\x06\x01\x02\x01\x2B\x05\x01\x01\x0D"
+    "\x2B\x06\x01\x02\x01\x2B\x05\x01\x01\x0E" "\x2B\x06\x01\x02\x01\x2B\x05\x01\x01\x0F"
+    "\x2B\x06\x01\x02\x01\x2B\x05\x01\x01\x10" "\x2B\x06\x01\x02\x01\x2B\x05\x01\x01\x11"
+    "\x2B\x06\x01\x02\x01\x2B\x05\x01\x01\x12", "\x2B\x06\x01\x02\x01\x2B\x05\x01\x01\x13"
+    "\x2B\x06\x01\x02\x01\x2B\x05\x02" "\x2B\x06\x01\x02\x01\x2B\x05\x02\x01" "\x2B\x06\x01\x02\x01\x2B\x05\x02\x01\x01"
+    "\x2B\x06\x01\x02\x01\x2B\x05\x02\x01\x02" "\x2B\x06\x01\x02\x01\x2B\x05\x03" "\x2B\x06\x01\x02\x01\x2B\x05\x03\x01"
+    "\x2B\x06\x01\x02\x01\x2B\x05\x03\x01\x01" "\x2B\x06\x01\x02\x01\x2B\x05\x03\x01\x02" "\x2B\x06\x01\x02\x01\x2B\x06"
+    "\x2B\x06\x01\x02\x01\x2B\x06\x01" "\x2B\x06\x01\x02\x01\x2B\x06\x01\x01" "\x2B\x06\x01\x02\x01\x2B\x06\x01\x01\x01"
+    "\x2B\x06\x01\x02\x01\x2B\x06\x01\x01\x02" "\x2B\x06\x01\x02\x01\x2B\x06\x01\x01\x03" "\x2B\x06\x01\x02\x01\x2B\x07"
+    "\x2B\x06\x01\x02\x01\x2B\x07\x01" "\x2B\x06\x01\x02\x01\x2B\x07\x01\x01" "\x2B\x06\x01\x02\x01\x2B\x07\x01\x01\x01"
+    "\x2B\x06\x01\x02\x01\x2B\x07\x01\x01\x02" "\x2B\x06\x01\x02\x01\x2B\x07\x01\x01\x03"
+    "\x2B\x06\x01\x02\x01\x2B\x07\x01\x01\x04" "\x2B\x06\x01\x02\x01\x2B\x08" "\x2B\x06\x01\x02\x01\x2B\x08\x02"
+    "\x2B\x06\x01\x02\x01\x2B\x08\x02\x01" "\x2B\x06\x01\x02\x01\x2B\x08\x02\x01\x01"
+    "\x2B\x06\x01\x02\x01\x2B\x08\x02\x01\x02" "\x2B\x06\x01\x02\x01\x2B\x08\x02\x01\x03"
+    "\x2B\x06\x01\x02\x01\x2B\x08\x02\x01\x04" "\x2B\x06\x01\x02\x01\x2B\x08\x02\x01\x05"
+    "\x2B\x06\x01\x02\x01\x2B\x08\x02\x01\x06" "\x2B\x06\x01\x02\x01\x2B\x08\x02\x01\x07"
+    "\x2B\x06\x01\x02\x01\x2B\x08\x02\x01\x08" "\x2B\x06\x01\x02\x01\x2B\x08\x02\x01\x09"
+    "\x2B\x06\x01\x02\x01\x2B\x08\x02\x01\x0A" "\x2B\x06\x01\x02\x01\x2B\x08\x02\x01\x0B"
+    "\x2B\x06\x01\x02\x01\x2B\x08\x02\x01\x0C" "\x2B\x06\x01\x02\x01\x2B\x08\x02\x01\x0D"
+    "\x2B\x06\x01\x02\x01\x2B\x08\x02\x01\x0E" "\x2B\x06\x01\x02\x01\x2B\x08\x02\x01\x0F"
+    "\x2B\x06\x01\x02\x01\x2B\x08\x02\x01\x10" "\x2B\x06\x01\x02\x01\x2B\x08\x02\x01\x11"
+    "\x2B\x06\x01\x02\x01\x2B\x08\x02\x01\x12" "\x2B\x06\x01\x02\x01\x2B\x08\x02\x01\x13"
+    "\x2B\x06\x01\x02\x01\x2B\x08\x02\x01\x14" "\x2B\x06\x01\x02\x01\x2B\x08\x02\x01\x15"
+    "\x2B\x06\x01\x02\x01\x2B\x08\x02\x01\x16" "\x2B\x06\x01\x02\x01\x2B\x08\x02\x01\x17"
+    "\x2B\x06\x01\x02\x01\x2B\x08\x02\x01\x18" "\x2B\x06\x01\x02\x01\x2B\x08\x02\x01\x19" "\x2B\x06\x01\x02\x01\x2B\x09"
+    "\x2B\x06\x01\x02\x01\x2B\x09\x02" "\x2B\x06\x01\x02\x01\x2B\x09\x02\x01",
+    "\x2B\x06\x01\x02\x01\x2B\x09\x02\x01\x01" "\x2B\x06\x01\x02\x01\x2B\x09\x02\x01\x02"
+    "\x2B\x06\x01\x02\x01\x2B\x09\x02\x01\x03" "\x2B\x06\x01\x02\x01\x2B\x09\x02\x01\x04"
+    "\x2B\x06\x01\x02\x01\x2B\x09\x02\x01\x05" "\x2B\x06\x01\x02\x01\x2B\x09\x02\x01\x06"
+    "\x2B\x06\x01\x02\x01\x2B\x09\x02\x01\x07" "\x2B\x06\x01\x02\x01\x2B\x09\x02\x01\x08"
+    "\x2B\x06\x01\x02\x01\x2B\x09\x02\x01\x09" "\x2B\x06\x01\x02\x01\x2B\x09\x02\x01\x0A"
+    "\x2B\x06\x01\x02\x01\x2B\x09\x02\x01\x0B" "\x2B\x06\x01\x02\x01\x2B\x09\x02\x01\x0C"
+    "\x2B\x06\x01\x02\x01\x2B\x09\x02\x01\x0D" "\x2B\x06\x01\x02\x01\x2B\x09\x02\x01\x0E"
+    "\x2B\x06\x01\x02\x01\x2B\x09\x02\x01\x0F" "\x2B\x06\x01\x02\x01\x2B\x09\x02\x01\x10"
+    "\x2B\x06\x01\x02\x01\x2B\x09\x02\x01\x11" "\x2B\x06\x01\x02\x01\x2B\x09\x02\x01\x12"
+    "\x2B\x06\x01\x02\x01\x2B\x09\x02\x01\x13" "\x2B\x06\x01\x02\x01\x2B\x09\x02\x01\x14"
+    "\x2B\x06\x01\x02\x01\x2B\x09\x02\x01\x15" "\x2B\x06\x01\x02\x01\x2B\x09\x02\x01\x16"
+    "\x2B\x06\x01\x02\x01\x2B\x09\x02\x01\x17" "\x2B\x06\x01\x02\x01\x2B\x09\x02\x01\x18" "\x2B\x06\x01\x02\x01\x2B\x0A"
+    "\x2B\x06\x01\x02\x01\x2B\x0A\x02" "\x2B\x06\x01\x02\x01\x2B\x0A\x02\x01" "\x2B\x06\x01\x02\x01\x2B\x0A\x02\x01\x01"
+    "\x2B\x06\x01\x02\x01\x2B\x0A\x02\x01\x02" "\x2B\x06\x01\x02\x01\x2B\x0A\x02\x01\x03"
+    "\x2B\x06\x01\x02\x01\x2B\x0A\x02\x01\x04" "\x2B\x06\x01\x02\x01\x2B\x0A\x02\x01\x05"
+    "\x2B\x06\x01\x02\x01\x2B\x0A\x02\x01\x06" "\x2B\x06\x01\x02\x01\x2B\x0A\x02\x01\x07"
+    "\x2B\x06\x01\x02\x01\x2B\x0A\x02\x01\x08" "\x2B\x06\x01\x02\x01\x2B\x0A\x02\x01\x09"
+    "\x2B\x06\x01\x02\x01\x2B\x0A\x02\x01\x0A" "\x2B\x06\x01\x02\x01\x2B\x0A\x02\x01\x0B"
+    "\x2B\x06\x01\x02\x01\x2B\x0A\x02\x01\x0C" "\x2B\x06\x01\x02\x01\x2B\x0A\x02\x01\x0D"
+    "\x2B\x06\x01\x02\x01\x2B\x0A\x02\x01\x0E" "\x2B\x06\x01\x02\x01\x2B\x0A\x02\x01\x0F" "\x2B\x06\x01\x02\x01\x2B\x0B"
+    "\x2B\x06\x01\x02\x01\x2B\x0B\x01" "\x2B\x06\x01\x02\x01\x2B\x0B\x01\x01" "\x2B\x06\x01\x02\x01\x2B\x0B\x01\x01\x01"
+    "\x2B\x06\x01\x02\x01\x2B\x0B\x01\x01\x02" "\x2B\x06\x01\x02\x01\x2B\x0B\x01\x01\x03"
+    "\x2B\x06\x01\x02\x01\x2B\x0B\x01\x01\x04" "\x2B\x06\x01\x02\x01\x2B\x0B\x01\x01\x05"
+    "\x2B\x06\x01\x02\x01\x2B\x0B\x01\x01\x06" "\x2B\x06\x01\x02\x01\x2B\x0B\x01\x01\x07",
+    "\x2B\x06\x01\x02\x01\x2B\x0B\x01\x01\x08" "\x2B\x06\x01\x02\x01\x2B\x0B\x01\x01\x09" "\x2B\x06\x01\x02\x01\x2B\x0C"
+    "\x2B\x06\x01\x02\x01\x2B\x0C\x01" "\x2B\x06\x01\x02\x01\x2B\x0C\x01\x01" "\x2B\x06\x01\x02\x01\x2B\x0C\x01\x01\x01"
+    "\x2B\x06\x01\x02\x01\x2B\x0C\x01\x01\x02" "\x2B\x06\x01\x02\x01\x2B\x0C\x01\x01\x03"
+    "\x2B\x06\x01\x02\x01\x2B\x0C\x01\x01\x04" "\x2B\x06\x01\x02\x01\x2B\x0C\x01\x01\x05" "\x2B\x06\x01\x02\x01\x2B\x0D"
+    "\x2B\x06\x01\x02\x01\x2B\x0D\x04" "\x2B\x06\x01\x02\x01\x2B\x0D\x04\x01" "\x2B\x06\x01\x02\x01\x2B\x0D\x04\x01\x01"
+    "\x2B\x06\x01\x02\x01\x2B\x0D\x04\x01\x02" "\x2B\x06\x01\x02\x01\x2B\x0D\x04\x01\x03"
+    "\x2B\x06\x01\x02\x01\x2B\x0D\x04\x01\x04" "\x2B\x06\x01\x02\x01\x2B\x0D\x04\x01\x05"
+    "\x2B\x06\x01\x02\x01\x2B\x0D\x04\x01\x06" "\x2B\x06\x01\x02\x01\x2B\x0D\x04\x01\x07"
+    "\x2B\x06\x01\x02\x01\x2B\x0D\x04\x01\x08" "\x2B\x06\x01\x02\x01\x2B\x0D\x04\x01\x09"
+    "\x2B\x06\x01\x02\x01\x2B\x0D\x04\x01\x0A" "\x2B\x06\x01\x02\x01\x2B\x0D\x04\x01\x0B" "\x2B\x06\x01\x02\x01\x2B\x0E"
+    "\x2B\x06\x01\x02\x01\x2B\x0E\x01" "\x2B\x06\x01\x02\x01\x2B\x0E\x01\x01" "\x2B\x06\x01\x02\x01\x2B\x0E\x01\x01\x01"
+    "\x2B\x06\x01\x02\x01\x2B\x0E\x01\x01\x02" "\x2B\x06\x01\x02\x01\x2B\x0E\x01\x01\x03"
+    "\x2B\x06\x01\x02\x01\x2B\x0E\x01\x01\x04" "\x2B\x06\x01\x02\x01\x2B\x0E\x01\x01\x05"
+    "\x2B\x06\x01\x02\x01\x2B\x0E\x01\x01\x06" "\x2B\x06\x01\x02\x01\x2B\x0E\x01\x01\x07"
+    "\x2B\x06\x01\x02\x01\x2B\x0E\x01\x01\x08" "\x2B\x06\x01\x02\x01\x2B\x0E\x01\x01\x09" "\x2B\x06\x01\x02\x01\x2B\x0F"
+    "\x2B\x06\x01\x02\x01\x2B\x0F\x01" "\x2B\x06\x01\x02\x01\x2B\x0F\x01\x01" "\x2B\x06\x01\x02\x01\x2B\x0F\x01\x01\x01"
+    "\x2B\x06\x01\x02\x01\x2B\x0F\x01\x01\x02" "\x2B\x06\x01\x02\x01\x2B\x0F\x01\x01\x03"
+    "\x2B\x06\x01\x02\x01\x2B\x0F\x01\x01\x04" "\x2B\x06\x01\x02\x01\x2B\x0F\x01\x01\x05"
+    "\x2B\x06\x01\x02\x01\x2B\x0F\x01\x01\x06" "\x2B\x06\x01\x02\x01\x2B\x0F\x01\x01\x07"
+    "\x2B\x06\x01\x02\x01\x2B\x0F\x01\x01\x08" "\x2B\x06\x01\x02\x01\x2B\x0F\x01\x01\x09"
+    "\x2B\x06\x01\x02\x01\x2B\x0F\x01\x01\x0A" "\x2B\x06\x01\x02\x01\x2B\x0F\x01\x01\x0B"
+    "\x2B\x06\x01\x02\x01\x2B\x0F\x01\x01\x0C" "\x2B\x06\x01\x02\x01\x2B\x10" "\x2B\x06\x01\x02\x01\x2B\x10\x05",
+    "\x2B\x06\x01\x02\x01\x2B\x10\x05\x01" "\x2B\x06\x01\x02\x01\x2B\x10\x05\x01\x01"
+    "\x2B\x06\x01\x02\x01\x2B\x10\x05\x01\x02" "\x2B\x06\x01\x02\x01\x2B\x11" "\x2B\x06\x01\x02\x01\x2B\x11\x06"
+    "\x2B\x06\x01\x02\x01\x2B\x11\x06\x01" "\x2B\x06\x01\x02\x01\x2B\x11\x06\x01\x01"
+    "\x2B\x06\x01\x02\x01\x2B\x11\x06\x01\x02" "\x2B\x06\x01\x02\x01\x2B\x11\x06\x01\x03"
+    "\x2B\x06\x01\x02\x01\x2B\x11\x06\x01\x04" "\x2B\x06\x01\x02\x01\x2B\x11\x06\x01\x05" "\x2B\x06\x01\x02\x01\x2B\x12"
+    "\x2B\x06\x01\x02\x01\x2B\x12\x01" "\x2B\x06\x01\x02\x01\x2B\x12\x01\x01" "\x2B\x06\x01\x02\x01\x2B\x12\x01\x01\x01"
+    "\x2B\x06\x01\x02\x01\x2B\x12\x01\x01\x02" "\x2B\x06\x01\x02\x01\x2B\x12\x01\x01\x03"
+    "\x2B\x06\x01\x02\x01\x2B\x12\x01\x01\x05" "\x2B\x06\x01\x02\x01\x2B\x12\x01\x01\x06"
+    "\x2B\x06\x01\x02\x01\x2B\x12\x01\x01\x07" "\x2B\x06\x01\x02\x01\x2B\x12\x01\x01\x08"
+    "\x2B\x06\x01\x02\x01\x2B\x12\x01\x01\x09" "\x2B\x06\x01\x02\x01\x2B\x12\x02" "\x2B\x06\x01\x02\x01\x2B\x12\x02\x00"
+    "\x2B\x06\x01\x02\x01\x2B\x12\x02\x00\x01" "\x2B\x06\x01\x02\x01\x2F" "\x2B\x06\x01\x02\x01\x2F\x01"
     "\x2B\x06\x01\x02\x01\x2F\x01\x01" "\x2B\x06\x01\x02\x01\x2F\x01\x01\x01" "\x2B\x06\x01\x02\x01\x2F\x01\x01\x01\x01"
     "\x2B\x06\x01\x02\x01\x2F\x01\x01\x01\x01\x01" "\x2B\x06\x01\x02\x01\x2F\x01\x01\x01\x01\x02"
     "\x2B\x06\x01\x02\x01\x2F\x01\x01\x01\x01\x03" "\x2B\x06\x01\x02\x01\x2F\x01\x01\x01\x01\x04"
@@ -688,39 +1013,39 @@ CONST_OID_TABLE const uint8_t const_oid_common_bytes[][512] = {
     "\x2B\x06\x01\x02\x01\x2F\x01\x01\x01\x01\x0D" "\x2B\x06\x01\x02\x01\x2F\x01\x01\x01\x01\x0E"
     "\x2B\x06\x01\x02\x01\x2F\x01\x01\x01\x01\x0F" "\x2B\x06\x01\x02\x01\x2F\x01\x01\x01\x01\x10"
     "\x2B\x06\x01\x02\x01\x2F\x01\x01\x01\x01\x11" "\x2B\x06\x01\x02\x01\x2F\x01\x01\x01\x01\x12"
-    "\x2B\x06\x01\x02\x01\x2F\x01\x02" "\x2B\x06\x01\x02\x01\x2F\x01\x02\x01" "\x2B\x06\x01\x02\x01\x2F\x01\x02\x01\x01"
-    "\x2B\x06\x01\x02\x01\x2F\x01\x02\x01\x01\x01" "\x2B\x06\x01\x02\x01\x2F\x01\x02\x01\x01\x02"
-    "\x2B\x06\x01\x02\x01\x2F\x01\x02\x01\x01\x03" "\x2B\x06\x01\x02\x01\x2F\x01\x02\x01\x01\x04"
-    "\x2B\x06\x01\x02\x01\x2F\x01\x02\x01\x01\x05" "\x2B\x06\x01\x02\x01\x2F\x01\x02\x01\x01\x06"
-    "\x2B\x06\x01\x02\x01\x2F\x01\x02\x01\x01\x07" "\x2B\x06\x01\x02\x01\x2F\x01\x02\x01\x01\x08"
-    "\x2B\x06\x01\x02\x01\x2F\x01\x03" "\x2B\x06\x01\x02\x01\x2F\x01\x03\x01"
-    "\x2B\x06\x01\x02\x01\x2F\x01\x03\x01\x01", "\x2B\x06\x01\x02\x01\x2F\x01\x03\x01\x01\x01"
-    "\x2B\x06\x01\x02\x01\x2F\x01\x03\x02" "\x2B\x06\x01\x02\x01\x2F\x01\x03\x02\x01"
-    "\x2B\x06\x01\x02\x01\x2F\x01\x03\x02\x01\x01" "\x2B\x06\x01\x02\x01\x2F\x01\x03\x02\x01\x02"
-    "\x2B\x06\x01\x02\x01\x2F\x01\x03\x03" "\x2B\x06\x01\x02\x01\x2F\x01\x03\x03\x01"
-    "\x2B\x06\x01\x02\x01\x2F\x01\x03\x03\x01\x01" "\x2B\x06\x01\x02\x01\x2F\x01\x04"
-    "\x2B\x06\x01\x02\x01\x2F\x01\x04\x01" "\x2B\x06\x01\x02\x01\x2F\x02" "\x2B\x06\x01\x02\x01\x2F\x02\x00"
-    "\x2B\x06\x01\x02\x01\x2F\x02\x00\x01" "\x2B\x06\x01\x02\x01\x30" "\x2B\x06\x01\x02\x01\x30\x02"
-    "\x2B\x06\x01\x02\x01\x30\x02\x01" "\x2B\x06\x01\x02\x01\x30\x02\x01\x01" "\x2B\x06\x01\x02\x01\x30\x02\x01\x02"
-    "\x2B\x06\x01\x02\x01\x30\x02\x02" "\x2B\x06\x01\x02\x01\x30\x02\x02\x01" "\x2B\x06\x01\x02\x01\x30\x02\x02\x02"
-    "\x2B\x06\x01\x02\x01\x30\x02\x02\x03" "\x2B\x06\x01\x02\x01\x30\x02\x02\x04" "\x2B\x06\x01\x02\x01\x30\x02\x02\x05"
-    "\x2B\x06\x01\x02\x01\x30\x02\x02\x06" "\x2B\x06\x01\x02\x01\x30\x02\x02\x07" "\x2B\x06\x01\x02\x01\x30\x02\x02\x08"
-    "\x2B\x06\x01\x02\x01\x30\x02\x02\x09" "\x2B\x06\x01\x02\x01\x30\x02\x02\x0A" "\x2B\x06\x01\x02\x01\x30\x02\x02\x0B"
-    "\x2B\x06\x01\x02\x01\x30\x02\x02\x0C" "\x2B\x06\x01\x02\x01\x30\x02\x02\x0D" "\x2B\x06\x01\x02\x01\x30\x02\x02\x0E"
-    "\x2B\x06\x01\x02\x01\x30\x02\x02\x0F" "\x2B\x06\x01\x02\x01\x30\x02\x02\x10" "\x2B\x06\x01\x02\x01\x30\x02\x02\x11"
-    "\x2B\x06\x01\x02\x01\x30\x02\x02\x12" "\x2B\x06\x01\x02\x01\x30\x02\x02\x13" "\x2B\x06\x01\x02\x01\x30\x02\x02\x14"
-    "\x2B\x06\x01\x02\x01\x30\x02\x02\x15" "\x2B\x06\x01\x02\x01\x30\x02\x02\x16" "\x2B\x06\x01\x02\x01\x30\x02\x02\x17"
-    "\x2B\x06\x01\x02\x01\x30\x02\x02\x18" "\x2B\x06\x01\x02\x01\x31" "\x2B\x06\x01\x02\x01\x31\x02"
-    "\x2B\x06\x01\x02\x01\x31\x02\x01" "\x2B\x06\x01\x02\x01\x31\x02\x01\x01" "\x2B\x06\x01\x02\x01\x31\x02\x01\x02"
-    "\x2B\x06\x01\x02\x01\x31\x02\x02" "\x2B\x06\x01\x02\x01\x31\x02\x02\x01" "\x2B\x06\x01\x02\x01\x31\x02\x02\x02"
-    "\x2B\x06\x01\x02\x01\x31\x02\x02\x03" "\x2B\x06\x01\x02\x01\x31\x02\x02\x04" "\x2B\x06\x01\x02\x01\x31\x02\x02\x05"
-    "\x2B\x06\x01\x02\x01\x32" "\x2B\x06\x01\x02\x01\x32\x02" "\x2B\x06\x01\x02\x01\x32\x02\x01"
-    "\x2B\x06\x01\x02\x01\x32\x02\x01\x01", "\x2B\x06\x01\x02\x01\x32\x02\x01\x02" "\x2B\x06\x01\x02\x01\x32\x02\x02"
-    "\x2B\x06\x01\x02\x01\x32\x02\x02\x01" "\x2B\x06\x01\x02\x01\x32\x02\x02\x02" "\x2B\x06\x01\x02\x01\x32\x02\x02\x03"
-    "\x2B\x06\x01\x02\x01\x32\x02\x02\x04" "\x2B\x06\x01\x02\x01\x4D" "\x2B\x06\x01\x02\x01\x4D\x01"
-    "\x2B\x06\x01\x02\x01\x4D\x01\x01" "\x2B\x06\x01\x02\x01\x4D\x01\x01\x01" "\x2B\x06\x01\x02\x01\x4D\x01\x01\x01\x01"
-    "\x2B\x06\x01\x02\x01\x63" "\x2B\x06\x01\x02\x01\x63\x01" "\x2B\x06\x01\x02\x01\x63\x01\x01"
-    "\x2B\x06\x01\x02\x01\x63\x01\x01\x01" "\x2B\x06\x01\x02\x01\x63\x01\x01\x01\x01"
+    "\x2B\x06\x01\x02\x01\x2F\x01\x02" "\x2B\x06\x01\x02\x01\x2F\x01\x02\x01"
+    "\x2B\x06\x01\x02\x01\x2F\x01\x02\x01\x01", "\x2B\x06\x01\x02\x01\x2F\x01\x02\x01\x01\x01"
+    "\x2B\x06\x01\x02\x01\x2F\x01\x02\x01\x01\x02" "\x2B\x06\x01\x02\x01\x2F\x01\x02\x01\x01\x03"
+    "\x2B\x06\x01\x02\x01\x2F\x01\x02\x01\x01\x04" "\x2B\x06\x01\x02\x01\x2F\x01\x02\x01\x01\x05"
+    "\x2B\x06\x01\x02\x01\x2F\x01\x02\x01\x01\x06" "\x2B\x06\x01\x02\x01\x2F\x01\x02\x01\x01\x07"
+    "\x2B\x06\x01\x02\x01\x2F\x01\x02\x01\x01\x08" "\x2B\x06\x01\x02\x01\x2F\x01\x03"
+    "\x2B\x06\x01\x02\x01\x2F\x01\x03\x01" "\x2B\x06\x01\x02\x01\x2F\x01\x03\x01\x01"
+    "\x2B\x06\x01\x02\x01\x2F\x01\x03\x01\x01\x01" "\x2B\x06\x01\x02\x01\x2F\x01\x03\x02"
+    "\x2B\x06\x01\x02\x01\x2F\x01\x03\x02\x01" "\x2B\x06\x01\x02\x01\x2F\x01\x03\x02\x01\x01"
+    "\x2B\x06\x01\x02\x01\x2F\x01\x03\x02\x01\x02" "\x2B\x06\x01\x02\x01\x2F\x01\x03\x03"
+    "\x2B\x06\x01\x02\x01\x2F\x01\x03\x03\x01" "\x2B\x06\x01\x02\x01\x2F\x01\x03\x03\x01\x01"
+    "\x2B\x06\x01\x02\x01\x2F\x01\x04" "\x2B\x06\x01\x02\x01\x2F\x01\x04\x01" "\x2B\x06\x01\x02\x01\x2F\x02"
+    "\x2B\x06\x01\x02\x01\x2F\x02\x00" "\x2B\x06\x01\x02\x01\x2F\x02\x00\x01" "\x2B\x06\x01\x02\x01\x30"
+    "\x2B\x06\x01\x02\x01\x30\x02" "\x2B\x06\x01\x02\x01\x30\x02\x01" "\x2B\x06\x01\x02\x01\x30\x02\x01\x01"
+    "\x2B\x06\x01\x02\x01\x30\x02\x01\x02" "\x2B\x06\x01\x02\x01\x30\x02\x02" "\x2B\x06\x01\x02\x01\x30\x02\x02\x01"
+    "\x2B\x06\x01\x02\x01\x30\x02\x02\x02" "\x2B\x06\x01\x02\x01\x30\x02\x02\x03" "\x2B\x06\x01\x02\x01\x30\x02\x02\x04"
+    "\x2B\x06\x01\x02\x01\x30\x02\x02\x05" "\x2B\x06\x01\x02\x01\x30\x02\x02\x06" "\x2B\x06\x01\x02\x01\x30\x02\x02\x07"
+    "\x2B\x06\x01\x02\x01\x30\x02\x02\x08" "\x2B\x06\x01\x02\x01\x30\x02\x02\x09" "\x2B\x06\x01\x02\x01\x30\x02\x02\x0A"
+    "\x2B\x06\x01\x02\x01\x30\x02\x02\x0B" "\x2B\x06\x01\x02\x01\x30\x02\x02\x0C" "\x2B\x06\x01\x02\x01\x30\x02\x02\x0D"
+    "\x2B\x06\x01\x02\x01\x30\x02\x02\x0E" "\x2B\x06\x01\x02\x01\x30\x02\x02\x0F" "\x2B\x06\x01\x02\x01\x30\x02\x02\x10"
+    "\x2B\x06\x01\x02\x01\x30\x02\x02\x11" "\x2B\x06\x01\x02\x01\x30\x02\x02\x12" "\x2B\x06\x01\x02\x01\x30\x02\x02\x13"
+    "\x2B\x06\x01\x02\x01\x30\x02\x02\x14" "\x2B\x06\x01\x02\x01\x30\x02\x02\x15" "\x2B\x06\x01\x02\x01\x30\x02\x02\x16"
+    "\x2B\x06\x01\x02\x01\x30\x02\x02\x17" "\x2B\x06\x01\x02\x01\x30\x02\x02\x18" "\x2B\x06\x01\x02\x01\x31",
+    "\x2B\x06\x01\x02\x01\x31\x02" "\x2B\x06\x01\x02\x01\x31\x02\x01" "\x2B\x06\x01\x02\x01\x31\x02\x01\x01"
+    "\x2B\x06\x01\x02\x01\x31\x02\x01\x02" "\x2B\x06\x01\x02\x01\x31\x02\x02" "\x2B\x06\x01\x02\x01\x31\x02\x02\x01"
+    "\x2B\x06\x01\x02\x01\x31\x02\x02\x02" "\x2B\x06\x01\x02\x01\x31\x02\x02\x03" "\x2B\x06\x01\x02\x01\x31\x02\x02\x04"
+    "\x2B\x06\x01\x02\x01\x31\x02\x02\x05" "\x2B\x06\x01\x02\x01\x32" "\x2B\x06\x01\x02\x01\x32\x02"
+    "\x2B\x06\x01\x02\x01\x32\x02\x01" "\x2B\x06\x01\x02\x01\x32\x02\x01\x01" "\x2B\x06\x01\x02\x01\x32\x02\x01\x02"
+    "\x2B\x06\x01\x02\x01\x32\x02\x02" "\x2B\x06\x01\x02\x01\x32\x02\x02\x01" "\x2B\x06\x01\x02\x01\x32\x02\x02\x02"
+    "\x2B\x06\x01\x02\x01\x32\x02\x02\x03" "\x2B\x06\x01\x02\x01\x32\x02\x02\x04" "\x2B\x06\x01\x02\x01\x4D"
+    "\x2B\x06\x01\x02\x01\x4D\x01" "\x2B\x06\x01\x02\x01\x4D\x01\x01" "\x2B\x06\x01\x02\x01\x4D\x01\x01\x01"
+    "\x2B\x06\x01\x02\x01\x4D\x01\x01\x01\x01" "\x2B\x06\x01\x02\x01\x63" "\x2B\x06\x01\x02\x01\x63\x01"
+    "\x2B\x06\x01\x02\x01\x63\x01\x01" "\x2B\x06\x01\x02\x01\x63\x01\x01\x01" "\x2B\x06\x01\x02\x01\x63\x01\x01\x01\x01"
     "\x2B\x06\x01\x02\x01\x63\x01\x01\x01\x02" "\x2B\x06\x01\x02\x01\x63\x01\x01\x01\x03"
     "\x2B\x06\x01\x02\x01\x63\x01\x01\x01\x04" "\x2B\x06\x01\x02\x01\x63\x01\x01\x01\x05"
     "\x2B\x06\x01\x02\x01\x63\x01\x01\x01\x06" "\x2B\x06\x01\x02\x01\x63\x01\x01\x01\x07"
@@ -732,12 +1057,12 @@ CONST_OID_TABLE const uint8_t const_oid_common_bytes[][512] = {
     "\x2B\x06\x01\x04\x01\x2A\x02\x1B\x04\x01\x0D" "\x2B\x06\x01\x04\x01\x2A\x02\x1B\x04\x01\x0E"
     "\x2B\x06\x01\x04\x01\x2A\x02\x1B\x04\x01\x0F" "\x2B\x06\x01\x04\x01\x2A\x02\x1B\x04\x02\x01"
     "\x2B\x06\x01\x04\x01\x2A\x02\x1B\x04\x02\x04" "\x2B\x06\x01\x04\x01\x2A\x02\x1B\x04\x02\x05"
-    "\x2B\x06\x01\x04\x01\x2A\x02\x1B\x04\x02\x07" "\x2B\x06\x01\x04\x01\x2A\x02\x1B\x04\x02\x08"
+    "\x2B\x06\x01\x04\x01\x2A\x02\x1B\x04\x02\x07" "\x2B\x06\x01\x04\x01\x2A\x02\x1B\x04\x02\x08",
     "\x2B\x06\x01\x04\x01\x2A\x02\x1B\x04\x02\x09" "\x2B\x06\x01\x04\x01\x2A\x02\x1B\x04\x02\x0A"
     "\x2B\x06\x01\x04\x01\x2A\x02\x1B\x04\x02\x0B" "\x2B\x06\x01\x04\x01\x2A\x02\x1B\x08\x01\x01"
     "\x2B\x06\x01\x04\x01\x2A\x02\x1B\x08\x01\x02" "\x2B\x06\x01\x04\x01\x2A\x02\x1B\x08\x01\x03"
     "\x2B\x06\x01\x04\x01\x2A\x02\x1B\x08\x01\x04" "\x2B\x06\x01\x04\x01\x2A\x02\x1B\x08\x01\x05"
-    "\x2B\x06\x01\x04\x01\x2A\x02\x1B\x08\x01\x06" "\x2B\x06\x01\x04\x01\x2A\x02\x1B\x08\x01\x07",
+    "\x2B\x06\x01\x04\x01\x2A\x02\x1B\x08\x01\x06" "\x2B\x06\x01\x04\x01\x2A\x02\x1B\x08\x01\x07"
     "\x2B\x06\x01\x04\x01\x2A\x02\x1B\x08\x01\x08" "\x2B\x06\x01\x04\x01\x2A\x02\x1B\x08\x01\x09"
     "\x2B\x06\x01\x04\x01\x2A\x02\x1B\x08\x01\x0A" "\x2B\x06\x01\x04\x01\x2A\x02\x1B\x08\x01\x0B"
     "\x2B\x06\x01\x04\x01\x2A\x02\x1B\x08\x01\x0C" "\x2B\x06\x01\x04\x01\x2A\x02\x1B\x08\x01\x0D"
@@ -756,126 +1081,128 @@ CONST_OID_TABLE const uint8_t const_oid_common_bytes[][512] = {
     "\x2B\x06\x01\x04\x01\x81\x3C\x07\x01\x01\x06" "\x2B\x06\x01\x04\x01\x82\x37"
     "\x2B\x06\x01\x04\x01\x82\x37\x02\x01\x04" "\x2B\x06\x01\x04\x01\x82\x37\x02\x01\x0B"
     "\x2B\x06\x01\x04\x01\x82\x37\x02\x01\x0C" "\x2B\x06\x01\x04\x01\x82\x37\x02\x01\x0E"
-    "\x2B\x06\x01\x04\x01\x82\x37\x02\x01\x0F" "\x2B\x06\x01\x04\x01\x82\x37\x02\x01\x15"
+    "\x2B\x06\x01\x04\x01\x82\x37\x02\x01\x0F", "\x2B\x06\x01\x04\x01\x82\x37\x02\x01\x15"
     "\x2B\x06\x01\x04\x01\x82\x37\x02\x01\x16" "\x2B\x06\x01\x04\x01\x82\x37\x02\x02\x0A"
-    "\x2B\x06\x01\x04\x01\x82\x37\x02\x02\x1E" "\x2B\x06\x01\x04\x01\x82\x37\x03\x03\x01"
-    "\x2B\x06\x01\x04\x01\x82\x37\x0A\x01" "\x2B\x06\x01\x04\x01\x82\x37\x0A\x02"
-    "\x2B\x06\x01\x04\x01\x82\x37\x0A\x03\x01" "\x2B\x06\x01\x04\x01\x82\x37\x0A\x03\x02"
-    "\x2B\x06\x01\x04\x01\x82\x37\x0A\x03\x03" "\x2B\x06\x01\x04\x01\x82\x37\x0A\x03\x04",
+    "\x2B\x06\x01\x04\x01\x82\x37\x02\x02\x1E" "\x2B\x06\x01\x04\x01\x82\x37\x02\x04\x01"
+    "\x2B\x06\x01\x04\x01\x82\x37\x03\x03\x01" "\x2B\x06\x01\x04\x01\x82\x37\x0A\x01"
+    "\x2B\x06\x01\x04\x01\x82\x37\x0A\x02" "\x2B\x06\x01\x04\x01\x82\x37\x0A\x03\x01"
+    "\x2B\x06\x01\x04\x01\x82\x37\x0A\x03\x02" "\x2B\x06\x01\x04\x01\x82\x37\x0A\x03\x03"
+    "\x2B\x06\x01\x04\x01\x82\x37\x0A\x03\x03\x01" "\x2B\x06\x01\x04\x01\x82\x37\x0A\x03\x04"
     "\x2B\x06\x01\x04\x01\x82\x37\x0A\x03\x04\x01" "\x2B\x06\x01\x04\x01\x82\x37\x0A\x03\x05"
     "\x2B\x06\x01\x04\x01\x82\x37\x0A\x03\x06" "\x2B\x06\x01\x04\x01\x82\x37\x0A\x03\x07"
     "\x2B\x06\x01\x04\x01\x82\x37\x0A\x03\x08" "\x2B\x06\x01\x04\x01\x82\x37\x0A\x03\x09"
     "\x2B\x06\x01\x04\x01\x82\x37\x0A\x03\x0A" "\x2B\x06\x01\x04\x01\x82\x37\x0A\x03\x0B"
     "\x2B\x06\x01\x04\x01\x82\x37\x0A\x03\x0C" "\x2B\x06\x01\x04\x01\x82\x37\x0A\x03\x0D"
-    "\x2B\x06\x01\x04\x01\x82\x37\x0A\x03\x13" "\x2B\x06\x01\x04\x01\x82\x37\x0A\x03\x1E"
-    "\x2B\x06\x01\x04\x01\x82\x37\x0A\x05\x01" "\x2B\x06\x01\x04\x01\x82\x37\x0A\x06\x01"
-    "\x2B\x06\x01\x04\x01\x82\x37\x0A\x06\x02" "\x2B\x06\x01\x04\x01\x82\x37\x0A\x09\x01"
-    "\x2B\x06\x01\x04\x01\x82\x37\x0A\x0C\x01" "\x2B\x06\x01\x04\x01\x82\x37\x0D\x01"
-    "\x2B\x06\x01\x04\x01\x82\x37\x0D\x02\x01" "\x2B\x06\x01\x04\x01\x82\x37\x0D\x02\x02"
-    "\x2B\x06\x01\x04\x01\x82\x37\x0D\x02\x03" "\x2B\x06\x01\x04\x01\x82\x37\x11\x01"
-    "\x2B\x06\x01\x04\x01\x82\x37\x11\x02" "\x2B\x06\x01\x04\x01\x82\x37\x11\x03" "\x2B\x06\x01\x04\x01\x82\x37\x14\x01"
-    "\x2B\x06\x01\x04\x01\x82\x37\x14\x02" "\x2B\x06\x01\x04\x01\x82\x37\x14\x02\x01"
-    "\x2B\x06\x01\x04\x01\x82\x37\x14\x02\x02" "\x2B\x06\x01\x04\x01\x82\x37\x14\x02\x03"
-    "\x2B\x06\x01\x04\x01\x82\x37\x14\x03" "\x2B\x06\x01\x04\x01\x82\x37\x15\x01" "\x2B\x06\x01\x04\x01\x82\x37\x15\x02"
-    "\x2B\x06\x01\x04\x01\x82\x37\x15\x03" "\x2B\x06\x01\x04\x01\x82\x37\x15\x04" "\x2B\x06\x01\x04\x01\x82\x37\x15\x05"
-    "\x2B\x06\x01\x04\x01\x82\x37\x15\x06" "\x2B\x06\x01\x04\x01\x82\x37\x15\x07" "\x2B\x06\x01\x04\x01\x82\x37\x15\x08"
+    "\x2B\x06\x01\x04\x01\x82\x37\x0A\x03\x0E" "\x2B\x06\x01\x04\x01\x82\x37\x0A\x03\x13"
+    "\x2B\x06\x01\x04\x01\x82\x37\x0A\x03\x1E" "\x2B\x06\x01\x04\x01\x82\x37\x0A\x05\x01"
+    "\x2B\x06\x01\x04\x01\x82\x37\x0A\x06\x01" "\x2B\x06\x01\x04\x01\x82\x37\x0A\x06\x02"
+    "\x2B\x06\x01\x04\x01\x82\x37\x0A\x09\x01" "\x2B\x06\x01\x04\x01\x82\x37\x0A\x0C\x01"
+    "\x2B\x06\x01\x04\x01\x82\x37\x0D\x01" "\x2B\x06\x01\x04\x01\x82\x37\x0D\x02\x01"
+    "\x2B\x06\x01\x04\x01\x82\x37\x0D\x02\x02" "\x2B\x06\x01\x04\x01\x82\x37\x0D\x02\x03"
+    "\x2B\x06\x01\x04\x01\x82\x37\x11\x01" "\x2B\x06\x01\x04\x01\x82\x37\x11\x02" "\x2B\x06\x01\x04\x01\x82\x37\x11\x03"
+    "\x2B\x06\x01\x04\x01\x82\x37\x14\x01" "\x2B\x06\x01\x04\x01\x82\x37\x14\x02"
+    "\x2B\x06\x01\x04\x01\x82\x37\x14\x02\x01" "\x2B\x06\x01\x04\x01\x82\x37\x14\x02\x02"
+    "\x2B\x06\x01\x04\x01\x82\x37\x14\x02\x03" "\x2B\x06\x01\x04\x01\x82\x37\x14\x03"
+    "\x2B\x06\x01\x04\x01\x82\x37\x15\x01" "\x2B\x06\x01\x04\x01\x82\x37\x15\x02" "\x2B\x06\x01\x04\x01\x82\x37\x15\x03"
+    "\x2B\x06\x01\x04\x01\x82\x37\x15\x04" "\x2B\x06\x01\x04\x01\x82\x37\x15\x05" "\x2B\x06\x01\x04\x01\x82\x37\x15\x06"
+    "\x2B\x06\x01\x04\x01\x82\x37\x15\x07" "\x2B\x06\x01\x04\x01\x82\x37\x15\x08",
     "\x2B\x06\x01\x04\x01\x82\x37\x15\x09" "\x2B\x06\x01\x04\x01\x82\x37\x15\x0A" "\x2B\x06\x01\x04\x01\x82\x37\x15\x0B"
     "\x2B\x06\x01\x04\x01\x82\x37\x15\x0C" "\x2B\x06\x01\x04\x01\x82\x37\x15\x0D" "\x2B\x06\x01\x04\x01\x82\x37\x15\x0E"
     "\x2B\x06\x01\x04\x01\x82\x37\x15\x0F" "\x2B\x06\x01\x04\x01\x82\x37\x15\x10" "\x2B\x06\x01\x04\x01\x82\x37\x15\x11"
     "\x2B\x06\x01\x04\x01\x82\x37\x15\x13" "\x2B\x06\x01\x04\x01\x82\x37\x15\x14" "\x2B\x06\x01\x04\x01\x82\x37\x15\x15"
-    "\x2B\x06\x01\x04\x01\x82\x37\x15\x16" "\x2B\x06\x01\x04\x01\x82\x37\x15\x1B"
-    "\x2B\x06\x01\x04\x01\x82\x37\x19\x01", "\x2B\x06\x01\x04\x01\x82\x37\x19\x02"
-    "\x2B\x06\x01\x04\x01\x82\x37\x19\x02\x01" "\x2B\x06\x01\x04\x01\x82\x37\x36\x01\x02"
-    "\x2B\x06\x01\x04\x01\x82\x37\x3C\x02\x01\x01" "\x2B\x06\x01\x04\x01\x82\x37\x3C\x02\x01\x02"
-    "\x2B\x06\x01\x04\x01\x82\x37\x3C\x02\x01\x03" "\x2B\x06\x01\x04\x01\x82\x37\x3D\x01\x01"
-    "\x2B\x06\x01\x04\x01\x82\x37\x43\x01\x01" "\x2B\x06\x01\x04\x01\x82\x37\x43\x01\x02"
-    "\x2B\x06\x01\x04\x01\x82\x37\x4C\x08\x01" "\x2B\x06\x01\x04\x01\x83\x45\x10\x02\x81\x3C"
-    "\x2B\x06\x01\x04\x01\x8B\x3A\x81\x9C\x45" "\x2B\x06\x01\x04\x01\x8D\x3A\x0C\x02\x01"
-    "\x2B\x06\x01\x04\x01\x8D\x3A\x0C\x02\x01\x10" "\x2B\x06\x01\x04\x01\x8D\x3A\x0C\x02\x02"
-    "\x2B\x06\x01\x04\x01\x8D\x3A\x0C\x02\x02\x08" "\x2B\x06\x01\x04\x01\x8F\x65" "\x2B\x06\x01\x04\x01\x8F\x65\x02"
-    "\x2B\x06\x01\x04\x01\x8F\x65\x02\x01" "\x2B\x06\x01\x04\x01\x8F\x65\x02\x01\x01"
-    "\x2B\x06\x01\x04\x01\x8F\x65\x02\x01\x02" "\x2B\x06\x01\x04\x01\x8F\x65\x02\x01\x03"
-    "\x2B\x06\x01\x04\x01\x8F\x65\x02\x01\x04" "\x2B\x06\x01\x04\x01\x8F\x65\x02\x01\x05"
-    "\x2B\x06\x01\x04\x01\x8F\x65\x02\x01\x64" "\x2B\x06\x01\x04\x01\x8F\x65\x02\x01\x65"
-    "\x2B\x06\x01\x04\x01\x8F\x65\x02\x01\x66" "\x2B\x06\x01\x04\x01\x8F\x65\x02\x01\x67"
-    "\x2B\x06\x01\x04\x01\x8F\x65\x04" "\x2B\x06\x01\x04\x01\x8F\x65\x04\x01" "\x2B\x06\x01\x04\x01\x8F\x65\x04\x02"
-    "\x2B\x06\x01\x04\x01\x8F\x65\x04\x03" "\x2B\x06\x01\x04\x01\x8F\x65\x04\x04" "\x2B\x06\x01\x04\x01\x8F\x65\x04\x05"
-    "\x2B\x06\x01\x04\x01\x8F\x65\x04\x06" "\x2B\x06\x01\x04\x01\x8F\x65\x04\x07" "\x2B\x06\x01\x04\x01\x8F\x65\x04\x08"
+    "\x2B\x06\x01\x04\x01\x82\x37\x15\x16" "\x2B\x06\x01\x04\x01\x82\x37\x15\x1B" "\x2B\x06\x01\x04\x01\x82\x37\x19\x01"
+    "\x2B\x06\x01\x04\x01\x82\x37\x19\x02" "\x2B\x06\x01\x04\x01\x82\x37\x19\x02\x01"
+    "\x2B\x06\x01\x04\x01\x82\x37\x36\x01\x02" "\x2B\x06\x01\x04\x01\x82\x37\x3C\x02\x01\x01"
+    "\x2B\x06\x01\x04\x01\x82\x37\x3C\x02\x01\x02" "\x2B\x06\x01\x04\x01\x82\x37\x3C\x02\x01\x03"
+    "\x2B\x06\x01\x04\x01\x82\x37\x3D\x01\x01" "\x2B\x06\x01\x04\x01\x82\x37\x43\x01\x01"
+    "\x2B\x06\x01\x04\x01\x82\x37\x43\x01\x02" "\x2B\x06\x01\x04\x01\x82\x37\x4C\x08\x01"
+    "\x2B\x06\x01\x04\x01\x83\x45\x10\x02\x81\x3C" "\x2B\x06\x01\x04\x01\x84\x59\x0A\x04\x01"
+    "\x2B\x06\x01\x04\x01\x84\x59\x0A\x04\x02" "\x2B\x06\x01\x04\x01\x8B\x3A\x81\x9C\x45"
+    "\x2B\x06\x01\x04\x01\x8D\x3A\x0C\x02\x01" "\x2B\x06\x01\x04\x01\x8D\x3A\x0C\x02\x01\x10"
+    "\x2B\x06\x01\x04\x01\x8D\x3A\x0C\x02\x02" "\x2B\x06\x01\x04\x01\x8D\x3A\x0C\x02\x02\x08"
+    "\x2B\x06\x01\x04\x01\x8F\x65" "\x2B\x06\x01\x04\x01\x8F\x65\x02" "\x2B\x06\x01\x04\x01\x8F\x65\x02\x01"
+    "\x2B\x06\x01\x04\x01\x8F\x65\x02\x01\x01" "\x2B\x06\x01\x04\x01\x8F\x65\x02\x01\x02"
+    "\x2B\x06\x01\x04\x01\x8F\x65\x02\x01\x03" "\x2B\x06\x01\x04\x01\x8F\x65\x02\x01\x04"
+    "\x2B\x06\x01\x04\x01\x8F\x65\x02\x01\x05" "\x2B\x06\x01\x04\x01\x8F\x65\x02\x01\x64"
+    "\x2B\x06\x01\x04\x01\x8F\x65\x02\x01\x65" "\x2B\x06\x01\x04\x01\x8F\x65\x02\x01\x66"
+    "\x2B\x06\x01\x04\x01\x8F\x65\x02\x01\x67" "\x2B\x06\x01\x04\x01\x8F\x65\x04" "\x2B\x06\x01\x04\x01\x8F\x65\x04\x01"
+    "\x2B\x06\x01\x04\x01\x8F\x65\x04\x02" "\x2B\x06\x01\x04\x01\x8F\x65\x04\x03" "\x2B\x06\x01\x04\x01\x8F\x65\x04\x04"
+    "\x2B\x06\x01\x04\x01\x8F\x65\x04\x05" "\x2B\x06\x01\x04\x01\x8F\x65\x04\x06"
+    "\x2B\x06\x01\x04\x01\x8F\x65\x04\x07", "\x2B\x06\x01\x04\x01\x8F\x65\x04\x08"
     "\x2B\x06\x01\x04\x01\x8F\x65\x04\x09" "\x2B\x06\x01\x04\x01\x8F\x65\x04\x0A" "\x2B\x06\x01\x04\x01\x8F\x65\x04\x0B"
     "\x2B\x06\x01\x04\x01\x8F\x65\x04\x0C" "\x2B\x06\x01\x04\x01\x8F\x65\x04\x0D" "\x2B\x06\x01\x04\x01\x8F\x65\x04\x0E"
     "\x2B\x06\x01\x04\x01\x8F\x65\x04\x0F" "\x2B\x06\x01\x04\x01\x8F\x65\x04\x10" "\x2B\x06\x01\x04\x01\x8F\x65\x04\x11"
     "\x2B\x06\x01\x04\x01\x8F\x65\x04\x12" "\x2B\x06\x01\x04\x01\x8F\x65\x04\x13" "\x2B\x06\x01\x04\x01\x8F\x65\x04\x14"
     "\x2B\x06\x01\x04\x01\x8F\x65\x04\x15" "\x2B\x06\x01\x04\x01\x8F\x65\x04\x16" "\x2B\x06\x01\x04\x01\x8F\x65\x04\x17"
-    "\x2B\x06\x01\x04\x01\x8F\x65\x04\x18", "\x2B\x06\x01\x04\x01\x8F\x65\x04\x19"
-    "\x2B\x06\x01\x04\x01\x8F\x65\x04\x1A" "\x2B\x06\x01\x04\x01\x8F\x65\x04\x1B" "\x2B\x06\x01\x04\x01\x8F\x65\x04\x64"
-    "\x2B\x06\x01\x04\x01\x8F\x65\x04\x65" "\x2B\x06\x01\x04\x01\x8F\x65\x08" "\x2B\x06\x01\x04\x01\x8F\x65\x08\x01"
-    "\x2B\x06\x01\x04\x01\x8F\x65\x08\x01\x01" "\x2B\x06\x01\x04\x01\x8F\x65\x08\x01\x02"
-    "\x2B\x06\x01\x04\x01\x8F\x65\x08\x01\x03" "\x2B\x06\x01\x04\x01\x8F\x65\x08\x01\x64"
-    "\x2B\x06\x01\x04\x01\x8F\x65\x08\x01\x65" "\x2B\x06\x01\x04\x01\x8F\x65\x08\x01\x66"
-    "\x2B\x06\x01\x04\x01\x8F\x65\x08\x01\x67" "\x2B\x06\x01\x04\x01\x8F\x65\x09" "\x2B\x06\x01\x04\x01\x8F\x65\x09\x01"
-    "\x2B\x06\x01\x04\x01\x8F\x65\x09\x01\x01" "\x2B\x06\x01\x04\x01\x8F\x65\x09\x01\x02"
-    "\x2B\x06\x01\x04\x01\x8F\x65\x09\x01\x03" "\x2B\x06\x01\x04\x01\x8F\x65\x09\x01\x04"
-    "\x2B\x06\x01\x04\x01\x8F\x65\x09\x01\x05" "\x2B\x06\x01\x04\x01\x8F\x65\x09\x01\x06"
-    "\x2B\x06\x01\x04\x01\x8F\x65\x09\x01\x07" "\x2B\x06\x01\x04\x01\x8F\x65\x09\x01\x08"
-    "\x2B\x06\x01\x04\x01\x8F\x65\x09\x01\x09" "\x2B\x06\x01\x04\x01\x8F\x65\x09\x01\x0A"
-    "\x2B\x06\x01\x04\x01\x8F\x65\x09\x01\x0B" "\x2B\x06\x01\x04\x01\x8F\x65\x09\x01\x0C"
-    "\x2B\x06\x01\x04\x01\x8F\x65\x09\x01\x0D" "\x2B\x06\x01\x04\x01\x8F\x65\x09\x01\x0E"
-    "\x2B\x06\x01\x04\x01\x8F\x65\x09\x01\x0F" "\x2B\x06\x01\x04\x01\x8F\x65\x09\x01\x10"
-    "\x2B\x06\x01\x04\x01\x8F\x65\x09\x01\x64" "\x2B\x06\x01\x04\x01\x8F\x65\x09\x01\x65"
-    "\x2B\x06\x01\x04\x01\x8F\x65\x0A" "\x2B\x06\x01\x04\x01\x8F\x65\x0A\x01" "\x2B\x06\x01\x04\x01\x8F\x65\x0A\x01\x01"
-    "\x2B\x06\x01\x04\x01\x8F\x65\x0A\x01\x02" "\x2B\x06\x01\x04\x01\x8F\x65\x0A\x01\x03"
-    "\x2B\x06\x01\x04\x01\x8F\x65\x0A\x01\x04" "\x2B\x06\x01\x04\x01\x8F\x65\x0A\x01\x05"
-    "\x2B\x06\x01\x04\x01\x8F\x65\x0A\x01\x06" "\x2B\x06\x01\x04\x01\x8F\x65\x0A\x01\x64"
-    "\x2B\x06\x01\x04\x01\x8F\x65\x0A\x01\x65" "\x2B\x06\x01\x04\x01\x8F\x65\x0B" "\x2B\x06\x01\x04\x01\x8F\x65\x0B\x01"
-    "\x2B\x06\x01\x04\x01\x8F\x65\x0B\x02" "\x2B\x06\x01\x04\x01\x8F\x65\x0B\x03" "\x2B\x06\x01\x04\x01\x8F\x65\x0B\x04"
-    "\x2B\x06\x01\x04\x01\x8F\x65\x0B\x05" "\x2B\x06\x01\x04\x01\x8F\x65\x0B\x06" "\x2B\x06\x01\x04\x01\x8F\x65\x0B\x07"
-    "\x2B\x06\x01\x04\x01\x8F\x65\x0B\x08", "\x2B\x06\x01\x04\x01\x8F\x65\x0B\x09"
-    "\x2B\x06\x01\x04\x01\x8F\x65\x0B\x0A" "\x2B\x06\x01\x04\x01\x8F\x65\x0B\x0B" "\x2B\x06\x01\x04\x01\x8F\x65\x0B\x32"
-    "\x2B\x06\x01\x04\x01\x8F\x65\x0B\x33" "\x2B\x06\x01\x04\x01\x8F\x65\x0B\x34" "\x2B\x06\x01\x04\x01\x8F\x65\x0B\x35"
-    "\x2B\x06\x01\x04\x01\x8F\x65\x0B\x36" "\x2B\x06\x01\x04\x01\x8F\x65\x0B\x37" "\x2B\x06\x01\x04\x01\x8F\x65\x0B\x38"
-    "\x2B\x06\x01\x04\x01\x8F\x65\x0B\x39" "\x2B\x06\x01\x04\x01\x8F\x65\x0B\x3A" "\x2B\x06\x01\x04\x01\x8F\x65\x0B\x3B"
-    "\x2B\x06\x01\x04\x01\x8F\x65\x0B\x3C" "\x2B\x06\x01\x04\x01\x8F\x65\x0B\x3D" "\x2B\x06\x01\x04\x01\x8F\x65\x0B\x3E"
-    "\x2B\x06\x01\x04\x01\x8F\x65\x0B\x3F" "\x2B\x06\x01\x04\x01\x8F\x65\x0B\x40" "\x2B\x06\x01\x04\x01\x8F\x65\x0B\x41"
-    "\x2B\x06\x01\x04\x01\x8F\x65\x0B\x42" "\x2B\x06\x01\x04\x01\x8F\x65\x0B\x43" "\x2B\x06\x01\x04\x01\x8F\x65\x0C"
-    "\x2B\x06\x01\x04\x01\x8F\x65\x0D" "\x2B\x06\x01\x04\x01\x8F\x65\x0D\x01" "\x2B\x06\x01\x04\x01\x8F\x65\x0D\x01\x01"
-    "\x2B\x06\x01\x04\x01\x8F\x65\x0D\x01\x01\x01" "\x2B\x06\x01\x04\x01\x8F\x65\x0D\x01\x01\x01\x01"
-    "\x2B\x06\x01\x04\x01\x8F\x65\x0D\x01\x01\x01\x02" "\x2B\x06\x01\x04\x01\x8F\x65\x0D\x01\x01\x01\x03"
-    "\x2B\x06\x01\x04\x01\x8F\x65\x0D\x01\x01\x01\x04" "\x2B\x06\x01\x04\x01\x8F\x65\x0D\x01\x01\x01\x05"
-    "\x2B\x06\x01\x04\x01\x8F\x65\x0D\x01\x01\x01\x06" "\x2B\x06\x01\x04\x01\x8F\x65\x0D\x01\x01\x01\x07"
-    "\x2B\x06\x01\x04\x01\x8F\x65\x0D\x01\x01\x01\x08" "\x2B\x06\x01\x04\x01\x8F\x65\x0D\x01\x01\x01\x09"
-    "\x2B\x06\x01\x04\x01\x8F\x65\x0D\x01\x01\x01\x0A" "\x2B\x06\x01\x04\x01\x8F\x65\x0D\x01\x01\x01\x0B"
-    "\x2B\x06\x01\x04\x01\x8F\x65\x0D\x01\x01\x01\x0C" "\x2B\x06\x01\x04\x01\x8F\x65\x0D\x01\x01\x01\x0D"
-    "\x2B\x06\x01\x04\x01\x8F\x65\x0D\x01\x01\x01\x0E" "\x2B\x06\x01\x04\x01\x8F\x65\x0D\x01\x01\x01\x0F"
-    "\x2B\x06\x01\x04\x01\x8F\x65\x0D\x01\x01\x01\x10" "\x2B\x06\x01\x04\x01\x8F\x65\x0D\x01\x01\x01\x11"
-    "\x2B\x06\x01\x04\x01\x8F\x65\x0D\x01\x01\x01\x12" "\x2B\x06\x01\x04\x01\x8F\x65\x0D\x01\x01\x01\x13"
-    "\x2B\x06\x01\x04\x01\x8F\x65\x0D\x01\x01\x01\x14" "\x2B\x06\x01\x04\x01\x8F\x65\x0D\x01\x01\x01\x15"
-    "\x2B\x06\x01\x04\x01\x8F\x65\x0D\x01\x01\x01\x16", "\x2B\x06\x01\x04\x01\x8F\x65\x0D\x01\x01\x01\x17"
-    "\x2B\x06\x01\x04\x01\x8F\x65\x0D\x01\x01\x01\x18" "\x2B\x06\x01\x04\x01\x8F\x65\x0D\x01\x01\x01\x19"
-    "\x2B\x06\x01\x04\x01\x8F\x65\x0D\x01\x01\x01\x1A" "\x2B\x06\x01\x04\x01\x8F\x65\x0D\x0E"
-    "\x2B\x06\x01\x04\x01\x8F\x65\x0D\x0E\x01" "\x2B\x06\x01\x04\x01\x8F\x65\x0D\x0E\x02"
-    "\x2B\x06\x01\x04\x01\x8F\x65\x0D\x0E\x02\x01" "\x2B\x06\x01\x04\x01\x8F\x65\x0D\x0E\x02\x01\x01"
-    "\x2B\x06\x01\x04\x01\x8F\x65\x0D\x0E\x02\x01\x02" "\x2B\x06\x01\x04\x01\x8F\x65\x0D\x0E\x02\x01\x03"
-    "\x2B\x06\x01\x04\x01\x8F\x65\x0D\x0E\x02\x01\x04" "\x2B\x06\x01\x04\x01\x8F\x65\x0D\x0E\x02\x01\x05"
-    "\x2B\x06\x01\x04\x01\x8F\x65\x0D\x0F" "\x2B\x06\x01\x04\x01\x8F\x65\x0D\x0F\x01"
-    "\x2B\x06\x01\x04\x01\x8F\x65\x0D\x0F\x01\x01" "\x2B\x06\x01\x04\x01\x8F\x65\x0D\x0F\x01\x01\x01"
-    "\x2B\x06\x01\x04\x01\x8F\x65\x0D\x0F\x01\x01\x02" "\x2B\x06\x01\x04\x01\x8F\x65\x0D\x0F\x01\x01\x03"
-    "\x2B\x06\x01\x04\x01\x8F\x65\x0D\x0F\x01\x01\x04" "\x2B\x06\x01\x04\x01\x8F\x65\x0D\x0F\x01\x01\x05"
-    "\x2B\x06\x01\x04\x01\x8F\x65\x0D\x0F\x01\x01\x06" "\x2B\x06\x01\x04\x01\x8F\x65\x0D\x0F\x01\x01\x09"
-    "\x2B\x06\x01\x04\x01\x8F\x65\x0D\x0F\x01\x01\x0A" "\x2B\x06\x01\x04\x01\x8F\x65\x0D\x0F\x01\x01\x0B"
-    "\x2B\x06\x01\x04\x01\x8F\x65\x0D\x0F\x01\x01\x0C" "\x2B\x06\x01\x04\x01\x8F\x65\x0D\x0F\x01\x01\x0D"
-    "\x2B\x06\x01\x04\x01\x8F\x65\x0D\x0F\x01\x01\x0E" "\x2B\x06\x01\x04\x01\x8F\x65\x0D\x10"
-    "\x2B\x06\x01\x04\x01\x8F\x65\x0D\x10\x01" "\x2B\x06\x01\x04\x01\x8F\x65\x0D\x10\x02"
-    "\x2B\x06\x01\x04\x01\x8F\x65\x0D\x10\x02\x01" "\x2B\x06\x01\x04\x01\x8F\x65\x0D\x10\x02\x01\x01"
-    "\x2B\x06\x01\x04\x01\x8F\x65\x0D\x10\x02\x01\x02" "\x2B\x06\x01\x04\x01\x8F\x65\x0D\x10\x02\x01\x03"
-    "\x2B\x06\x01\x04\x01\x8F\x65\x0D\x10\x03" "\x2B\x06\x01\x04\x01\x8F\x65\x0D\x10\x03\x01"
-    "\x2B\x06\x01\x04\x01\x8F\x65\x0D\x10\x03\x01\x01" "\x2B\x06\x01\x04\x01\x8F\x65\x0D\x10\x03\x01\x02"
-    "\x2B\x06\x01\x04\x01\x8F\x65\x0D\x10\x03\x01\x03" "\x2B\x06\x01\x04\x01\x8F\x65\x0D\x10\x04"
-    "\x2B\x06\x01\x04\x01\x8F\x65\x0D\x10\x04\x01" "\x2B\x06\x01\x04\x01\x8F\x65\x0D\x10\x04\x01\x01"
-    "\x2B\x06\x01\x04\x01\x8F\x65\x0D\x10\x04\x01\x02", "\x2B\x06\x01\x04\x01\x8F\x65\x0D\x10\x04\x01\x03"
-    "\x2B\x06\x01\x04\x01\x8F\x65\x0D\x10\x05" "\x2B\x06\x01\x04\x01\x8F\x65\x0D\x10\x05\x01"
-    "\x2B\x06\x01\x04\x01\x8F\x65\x0D\x10\x05\x01\x01" "\x2B\x06\x01\x04\x01\x8F\x65\x0D\x10\x05\x01\x02"
-    "\x2B\x06\x01\x04\x01\x8F\x65\x0D\x10\x05\x01\x03" "\x2B\x06\x01\x04\x01\x8F\x65\x0E"
-    "\x2B\x06\x01\x04\x01\x8F\x65\x0E\x01" "\x2B\x06\x01\x04\x01\x8F\x65\x0E\x01\x01"
+    "\x2B\x06\x01\x04\x01\x8F\x65\x04\x18" "\x2B\x06\x01\x04\x01\x8F\x65\x04\x19" "\x2B\x06\x01\x04\x01\x8F\x65\x04\x1A"
+    "\x2B\x06\x01\x04\x01\x8F\x65\x04\x1B" "\x2B\x06\x01\x04\x01\x8F\x65\x04\x64" "\x2B\x06\x01\x04\x01\x8F\x65\x04\x65"
+    "\x2B\x06\x01\x04\x01\x8F\x65\x08" "\x2B\x06\x01\x04\x01\x8F\x65\x08\x01" "\x2B\x06\x01\x04\x01\x8F\x65\x08\x01\x01"
+    "\x2B\x06\x01\x04\x01\x8F\x65\x08\x01\x02" "\x2B\x06\x01\x04\x01\x8F\x65\x08\x01\x03"
+    "\x2B\x06\x01\x04\x01\x8F\x65\x08\x01\x64" "\x2B\x06\x01\x04\x01\x8F\x65\x08\x01\x65"
+    "\x2B\x06\x01\x04\x01\x8F\x65\x08\x01\x66" "\x2B\x06\x01\x04\x01\x8F\x65\x08\x01\x67"
+    "\x2B\x06\x01\x04\x01\x8F\x65\x09" "\x2B\x06\x01\x04\x01\x8F\x65\x09\x01" "\x2B\x06\x01\x04\x01\x8F\x65\x09\x01\x01"
+    "\x2B\x06\x01\x04\x01\x8F\x65\x09\x01\x02" "\x2B\x06\x01\x04\x01\x8F\x65\x09\x01\x03"
+    "\x2B\x06\x01\x04\x01\x8F\x65\x09\x01\x04" "\x2B\x06\x01\x04\x01\x8F\x65\x09\x01\x05"
+    "\x2B\x06\x01\x04\x01\x8F\x65\x09\x01\x06" "\x2B\x06\x01\x04\x01\x8F\x65\x09\x01\x07"
+    "\x2B\x06\x01\x04\x01\x8F\x65\x09\x01\x08" "\x2B\x06\x01\x04\x01\x8F\x65\x09\x01\x09"
+    "\x2B\x06\x01\x04\x01\x8F\x65\x09\x01\x0A" "\x2B\x06\x01\x04\x01\x8F\x65\x09\x01\x0B"
+    "\x2B\x06\x01\x04\x01\x8F\x65\x09\x01\x0C" "\x2B\x06\x01\x04\x01\x8F\x65\x09\x01\x0D"
+    "\x2B\x06\x01\x04\x01\x8F\x65\x09\x01\x0E" "\x2B\x06\x01\x04\x01\x8F\x65\x09\x01\x0F"
+    "\x2B\x06\x01\x04\x01\x8F\x65\x09\x01\x10" "\x2B\x06\x01\x04\x01\x8F\x65\x09\x01\x64"
+    "\x2B\x06\x01\x04\x01\x8F\x65\x09\x01\x65" "\x2B\x06\x01\x04\x01\x8F\x65\x0A" "\x2B\x06\x01\x04\x01\x8F\x65\x0A\x01"
+    "\x2B\x06\x01\x04\x01\x8F\x65\x0A\x01\x01", "\x2B\x06\x01\x04\x01\x8F\x65\x0A\x01\x02"
+    "\x2B\x06\x01\x04\x01\x8F\x65\x0A\x01\x03" "\x2B\x06\x01\x04\x01\x8F\x65\x0A\x01\x04"
+    "\x2B\x06\x01\x04\x01\x8F\x65\x0A\x01\x05" "\x2B\x06\x01\x04\x01\x8F\x65\x0A\x01\x06"
+    "\x2B\x06\x01\x04\x01\x8F\x65\x0A\x01\x64" "\x2B\x06\x01\x04\x01\x8F\x65\x0A\x01\x65"
+    "\x2B\x06\x01\x04\x01\x8F\x65\x0B" "\x2B\x06\x01\x04\x01\x8F\x65\x0B\x01" "\x2B\x06\x01\x04\x01\x8F\x65\x0B\x02"
+    "\x2B\x06\x01\x04\x01\x8F\x65\x0B\x03" "\x2B\x06\x01\x04\x01\x8F\x65\x0B\x04" "\x2B\x06\x01\x04\x01\x8F\x65\x0B\x05"
+    "\x2B\x06\x01\x04\x01\x8F\x65\x0B\x06" "\x2B\x06\x01\x04\x01\x8F\x65\x0B\x07" "\x2B\x06\x01\x04\x01\x8F\x65\x0B\x08"
+    "\x2B\x06\x01\x04\x01\x8F\x65\x0B\x09" "\x2B\x06\x01\x04\x01\x8F\x65\x0B\x0A" "\x2B\x06\x01\x04\x01\x8F\x65\x0B\x0B"
+    "\x2B\x06\x01\x04\x01\x8F\x65\x0B\x32" "\x2B\x06\x01\x04\x01\x8F\x65\x0B\x33" "\x2B\x06\x01\x04\x01\x8F\x65\x0B\x34"
+    "\x2B\x06\x01\x04\x01\x8F\x65\x0B\x35" "\x2B\x06\x01\x04\x01\x8F\x65\x0B\x36" "\x2B\x06\x01\x04\x01\x8F\x65\x0B\x37"
+    "\x2B\x06\x01\x04\x01\x8F\x65\x0B\x38" "\x2B\x06\x01\x04\x01\x8F\x65\x0B\x39" "\x2B\x06\x01\x04\x01\x8F\x65\x0B\x3A"
+    "\x2B\x06\x01\x04\x01\x8F\x65\x0B\x3B" "\x2B\x06\x01\x04\x01\x8F\x65\x0B\x3C" "\x2B\x06\x01\x04\x01\x8F\x65\x0B\x3D"
+    "\x2B\x06\x01\x04\x01\x8F\x65\x0B\x3E" "\x2B\x06\x01\x04\x01\x8F\x65\x0B\x3F" "\x2B\x06\x01\x04\x01\x8F\x65\x0B\x40"
+    "\x2B\x06\x01\x04\x01\x8F\x65\x0B\x41" "\x2B\x06\x01\x04\x01\x8F\x65\x0B\x42" "\x2B\x06\x01\x04\x01\x8F\x65\x0B\x43"
+    "\x2B\x06\x01\x04\x01\x8F\x65\x0C" "\x2B\x06\x01\x04\x01\x8F\x65\x0D" "\x2B\x06\x01\x04\x01\x8F\x65\x0D\x01"
+    "\x2B\x06\x01\x04\x01\x8F\x65\x0D\x01\x01" "\x2B\x06\x01\x04\x01\x8F\x65\x0D\x01\x01\x01"
+    "\x2B\x06\x01\x04\x01\x8F\x65\x0D\x01\x01\x01\x01" "\x2B\x06\x01\x04\x01\x8F\x65\x0D\x01\x01\x01\x02"
+    "\x2B\x06\x01\x04\x01\x8F\x65\x0D\x01\x01\x01\x03" "\x2B\x06\x01\x04\x01\x8F\x65\x0D\x01\x01\x01\x04"
+    "\x2B\x06\x01\x04\x01\x8F\x65\x0D\x01\x01\x01\x05" "\x2B\x06\x01\x04\x01\x8F\x65\x0D\x01\x01\x01\x06"
+    "\x2B\x06\x01\x04\x01\x8F\x65\x0D\x01\x01\x01\x07" "\x2B\x06\x01\x04\x01\x8F\x65\x0D\x01\x01\x01\x08"
+    "\x2B\x06\x01\x04\x01\x8F\x65\x0D\x01\x01\x01\x09" "\x2B\x06\x01\x04\x01\x8F\x65\x0D\x01\x01\x01\x0A",
+    "\x2B\x06\x01\x04\x01\x8F\x65\x0D\x01\x01\x01\x0B" "\x2B\x06\x01\x04\x01\x8F\x65\x0D\x01\x01\x01\x0C"
+    "\x2B\x06\x01\x04\x01\x8F\x65\x0D\x01\x01\x01\x0D" "\x2B\x06\x01\x04\x01\x8F\x65\x0D\x01\x01\x01\x0E"
+    "\x2B\x06\x01\x04\x01\x8F\x65\x0D\x01\x01\x01\x0F" "\x2B\x06\x01\x04\x01\x8F\x65\x0D\x01\x01\x01\x10"
+    "\x2B\x06\x01\x04\x01\x8F\x65\x0D\x01\x01\x01\x11" "\x2B\x06\x01\x04\x01\x8F\x65\x0D\x01\x01\x01\x12"
+    "\x2B\x06\x01\x04\x01\x8F\x65\x0D\x01\x01\x01\x13" "\x2B\x06\x01\x04\x01\x8F\x65\x0D\x01\x01\x01\x14"
+    "\x2B\x06\x01\x04\x01\x8F\x65\x0D\x01\x01\x01\x15" "\x2B\x06\x01\x04\x01\x8F\x65\x0D\x01\x01\x01\x16"
+    "\x2B\x06\x01\x04\x01\x8F\x65\x0D\x01\x01\x01\x17" "\x2B\x06\x01\x04\x01\x8F\x65\x0D\x01\x01\x01\x18"
+    "\x2B\x06\x01\x04\x01\x8F\x65\x0D\x01\x01\x01\x19" "\x2B\x06\x01\x04\x01\x8F\x65\x0D\x01\x01\x01\x1A"
+    "\x2B\x06\x01\x04\x01\x8F\x65\x0D\x0E" "\x2B\x06\x01\x04\x01\x8F\x65\x0D\x0E\x01"
+    "\x2B\x06\x01\x04\x01\x8F\x65\x0D\x0E\x02" "\x2B\x06\x01\x04\x01\x8F\x65\x0D\x0E\x02\x01"
+    "\x2B\x06\x01\x04\x01\x8F\x65\x0D\x0E\x02\x01\x01" "\x2B\x06\x01\x04\x01\x8F\x65\x0D\x0E\x02\x01\x02"
+    "\x2B\x06\x01\x04\x01\x8F\x65\x0D\x0E\x02\x01\x03" "\x2B\x06\x01\x04\x01\x8F\x65\x0D\x0E\x02\x01\x04"
+    "\x2B\x06\x01\x04\x01\x8F\x65\x0D\x0E\x02\x01\x05" "\x2B\x06\x01\x04\x01\x8F\x65\x0D\x0F"
+    "\x2B\x06\x01\x04\x01\x8F\x65\x0D\x0F\x01" "\x2B\x06\x01\x04\x01\x8F\x65\x0D\x0F\x01\x01"
+    "\x2B\x06\x01\x04\x01\x8F\x65\x0D\x0F\x01\x01\x01" "\x2B\x06\x01\x04\x01\x8F\x65\x0D\x0F\x01\x01\x02"
+    "\x2B\x06\x01\x04\x01\x8F\x65\x0D\x0F\x01\x01\x03" "\x2B\x06\x01\x04\x01\x8F\x65\x0D\x0F\x01\x01\x04"
+    "\x2B\x06\x01\x04\x01\x8F\x65\x0D\x0F\x01\x01\x05" "\x2B\x06\x01\x04\x01\x8F\x65\x0D\x0F\x01\x01\x06"
+    "\x2B\x06\x01\x04\x01\x8F\x65\x0D\x0F\x01\x01\x09" "\x2B\x06\x01\x04\x01\x8F\x65\x0D\x0F\x01\x01\x0A"
+    "\x2B\x06\x01\x04\x01\x8F\x65\x0D\x0F\x01\x01\x0B" "\x2B\x06\x01\x04\x01\x8F\x65\x0D\x0F\x01\x01\x0C"
+    "\x2B\x06\x01\x04\x01\x8F\x65\x0D\x0F\x01\x01\x0D" "\x2B\x06\x01\x04\x01\x8F\x65\x0D\x0F\x01\x01\x0E"
+    "\x2B\x06\x01\x04\x01\x8F\x65\x0D\x10" "\x2B\x06\x01\x04\x01\x8F\x65\x0D\x10\x01"
+    "\x2B\x06\x01\x04\x01\x8F\x65\x0D\x10\x02" "\x2B\x06\x01\x04\x01\x8F\x65\x0D\x10\x02\x01",
+    "\x2B\x06\x01\x04\x01\x8F\x65\x0D\x10\x02\x01\x01" "\x2B\x06\x01\x04\x01\x8F\x65\x0D\x10\x02\x01\x02"
+    "\x2B\x06\x01\x04\x01\x8F\x65\x0D\x10\x02\x01\x03" "\x2B\x06\x01\x04\x01\x8F\x65\x0D\x10\x03"
+    "\x2B\x06\x01\x04\x01\x8F\x65\x0D\x10\x03\x01" "\x2B\x06\x01\x04\x01\x8F\x65\x0D\x10\x03\x01\x01"
+    "\x2B\x06\x01\x04\x01\x8F\x65\x0D\x10\x03\x01\x02" "\x2B\x06\x01\x04\x01\x8F\x65\x0D\x10\x03\x01\x03"
+    "\x2B\x06\x01\x04\x01\x8F\x65\x0D\x10\x04" "\x2B\x06\x01\x04\x01\x8F\x65\x0D\x10\x04\x01"
+    "\x2B\x06\x01\x04\x01\x8F\x65\x0D\x10\x04\x01\x01" "\x2B\x06\x01\x04\x01\x8F\x65\x0D\x10\x04\x01\x02"
+    "\x2B\x06\x01\x04\x01\x8F\x65\x0D\x10\x04\x01\x03" "\x2B\x06\x01\x04\x01\x8F\x65\x0D\x10\x05"
+    "\x2B\x06\x01\x04\x01\x8F\x65\x0D\x10\x05\x01" "\x2B\x06\x01\x04\x01\x8F\x65\x0D\x10\x05\x01\x01"
+    "\x2B\x06\x01\x04\x01\x8F\x65\x0D\x10\x05\x01\x02" "\x2B\x06\x01\x04\x01\x8F\x65\x0D\x10\x05\x01\x03"
+    "\x2B\x06\x01\x04\x01\x8F\x65\x0E" "\x2B\x06\x01\x04\x01\x8F\x65\x0E\x01" "\x2B\x06\x01\x04\x01\x8F\x65\x0E\x01\x01"
     "\x2B\x06\x01\x04\x01\x8F\x65\x0E\x01\x01\x01" "\x2B\x06\x01\x04\x01\x8F\x65\x0E\x01\x01\x02"
     "\x2B\x06\x01\x04\x01\x8F\x65\x0E\x01\x01\x03" "\x2B\x06\x01\x04\x01\x8F\x65\x0E\x01\x01\x04"
     "\x2B\x06\x01\x04\x01\x8F\x65\x0F" "\x2B\x06\x01\x04\x01\x8F\x65\x0F\x01" "\x2B\x06\x01\x04\x01\x8F\x65\x0F\x01\x01"
@@ -887,40 +1214,103 @@ CONST_OID_TABLE const uint8_t const_oid_common_bytes[][512] = {
     "\x2B\x06\x01\x04\x01\x8F\x65\x10\x02\x01\x03" "\x2B\x06\x01\x04\x01\x8F\x65\x10\x02\x01\x04"
     "\x2B\x06\x01\x04\x01\x8F\x65\x10\x02\x01\x05" "\x2B\x06\x01\x04\x01\x8F\x65\x10\x02\x01\x06"
     "\x2B\x06\x01\x04\x01\x8F\x65\x10\x02\x01\x07" "\x2B\x06\x01\x04\x01\x8F\x65\x10\x02\x01\x08"
-    "\x2B\x06\x01\x04\x01\x8F\x65\x10\x02\x01\x09" "\x2B\x06\x01\x04\x01\x8F\x65\x10\x02\x01\x0A"
+    "\x2B\x06\x01\x04\x01\x8F\x65\x10\x02\x01\x09" "\x2B\x06\x01\x04\x01\x8F\x65\x10\x02\x01\x0A",
     "\x2B\x06\x01\x04\x01\x8F\x65\x10\x02\x01\x0B" "\x2B\x06\x01\x04\x01\x8F\x65\x10\x02\x01\x64"
     "\x2B\x06\x01\x04\x01\x8F\x65\x10\x02\x01\x65" "\x2B\x06\x01\x04\x01\x8F\x65\x64"
     "\x2B\x06\x01\x04\x01\x8F\x65\x64\x01" "\x2B\x06\x01\x04\x01\x8F\x65\x64\x02" "\x2B\x06\x01\x04\x01\x8F\x65\x64\x03"
     "\x2B\x06\x01\x04\x01\x8F\x65\x64\x04" "\x2B\x06\x01\x04\x01\x8F\x65\x64\x05" "\x2B\x06\x01\x04\x01\x8F\x65\x64\x06"
     "\x2B\x06\x01\x04\x01\x8F\x65\x64\x0A" "\x2B\x06\x01\x04\x01\x8F\x65\x64\x0B" "\x2B\x06\x01\x04\x01\x8F\x65\x64\x0C"
-    "\x2B\x06\x01\x04\x01\x8F\x65\x64\x0D" "\x2B\x06\x01\x04\x01\x8F\x65\x64\x14", "\x2B\x06\x01\x04\x01\x8F\x65\x65"
+    "\x2B\x06\x01\x04\x01\x8F\x65\x64\x0D" "\x2B\x06\x01\x04\x01\x8F\x65\x64\x14" "\x2B\x06\x01\x04\x01\x8F\x65\x65"
     "\x2B\x06\x01\x04\x01\x8F\x65\x65\x01" "\x2B\x06\x01\x04\x01\x8F\x65\x65\x02" "\x2B\x06\x01\x04\x01\x8F\x65\x65\x64"
     "\x2B\x06\x01\x04\x01\x8F\x65\x65\x65" "\x2B\x06\x01\x04\x01\x8F\x65\x66" "\x2B\x06\x01\x04\x01\x8F\x65\x66\x01"
     "\x2B\x06\x01\x04\x01\x8F\x65\x66\x01\x01" "\x2B\x06\x01\x04\x01\x8F\x65\x66\x01\x02"
     "\x2B\x06\x01\x04\x01\x8F\x65\x81\x7A" "\x2B\x06\x01\x04\x01\x8F\x65\x81\x7A\x07"
     "\x2B\x06\x01\x04\x01\x8F\x65\x81\x7B" "\x2B\x06\x01\x04\x01\x8F\x65\x81\x7B\x01"
-    "\x2B\x06\x01\x04\x01\x8F\x65\x81\x7B\x02" "\x2B\x06\x01\x04\x01\x97\x55\x01\x02"
-    "\x2B\x06\x01\x04\x01\xA0\x6B\x01\x02\x01" "\x2B\x06\x01\x04\x01\xA0\x6B\x01\x03\x01"
-    "\x2B\x06\x01\x04\x01\xA0\x6B\x01\x03\x02" "\x2B\x06\x01\x04\x01\xA0\x6B\x01\x04\x01"
-    "\x2B\x06\x01\x04\x01\xA0\x6B\x01\x04\x03" "\x2B\x06\x01\x04\x01\xA0\x6B\x01\x04\x04"
-    "\x2B\x06\x01\x04\x01\xA0\x6B\x01\x04\x05" "\x2B\x06\x01\x04\x01\xA0\x6B\x01\x04\x06"
-    "\x2B\x06\x01\x04\x01\xA0\x6B\x01\x05\x01" "\x2B\x06\x01\x04\x01\xA0\x6B\x01\x05\x03"
-    "\x2B\x06\x01\x04\x01\xA0\x6B\x01\x05\x04" "\x2B\x06\x01\x04\x01\xA0\x6B\x01\x05\x05"
-    "\x2B\x06\x01\x04\x01\xA0\x6B\x01\x09\x01" "\x2B\x06\x01\x04\x01\xA0\x6B\x01\x0A\x01"
-    "\x2B\x06\x01\x04\x01\xA0\x6B\x01\x0B\x01" "\x2B\x06\x01\x04\x01\xA0\x6B\x01\x0B\x03"
-    "\x2B\x06\x01\x04\x01\xA0\x6B\x01\x0C\x02\x01" "\x2B\x06\x01\x04\x01\xA0\x6B\x85\x1A\x0B\x08\x01\x01"
-    "\x2B\x06\x01\x04\x01\xA0\x6B\x85\x1A\x0B\x08\x01\x02" "\x2B\x06\x01\x04\x01\xA0\x6B\x85\x1A\x0B\x08\x01\x03"
-    "\x2B\x06\x01\x04\x01\xA0\x6B\x85\x1A\x0B\x08\x02\x01" "\x2B\x06\x01\x04\x01\xA0\x6B\x85\x1A\x0B\x0A\x02\x04"
-    "\x2B\x06\x01\x04\x01\xA0\x6B\x85\x1A\x0B\x0A\x02\x05" "\x2B\x06\x01\x04\x01\xA0\x6B\x85\x1A\x0B\x0A\x02\x06"
-    "\x2B\x06\x01\x04\x01\xA5\x12\x01\x63\x01" "\x2B\x06\x01\x04\x01\xA5\x12\x01\x63\x02"
-    "\x2B\x06\x01\x04\x01\xA5\x12\x02\x63\x01" "\x2B\x06\x01\x04\x01\xAA\x33\x01\x83\x05\x06\x14"
-    "\x2B\x06\x01\x04\x01\xAA\x33\x01\x83\x05\x06\x15" "\x2B\x06\x01\x04\x01\xBF\x08" "\x2B\x06\x01\x04\x01\xBF\x08\x01"
+    "\x2B\x06\x01\x04\x01\x8F\x65\x81\x7B\x02" "\x2B\x06\x01\x04\x01\x92\x08\x12\x08\x01"
+    "\x2B\x06\x01\x04\x01\x92\x7C\x5A\x01\x01" "\x2B\x06\x01\x04\x01\x92\x7C\x5A\x01\x02"
+    "\x2B\x06\x01\x04\x01\x92\x7C\x5A\x01\x03" "\x2B\x06\x01\x04\x01\x92\x7C\x5A\x01\x04"
+    "\x2B\x06\x01\x04\x01\x92\x7C\x5A\x01\x05" "\x2B\x06\x01\x04\x01\x92\x7C\x5A\x01\x06"
+    "\x2B\x06\x01\x04\x01\x92\x7C\x5A\x01\x07" "\x2B\x06\x01\x04\x01\x92\x7C\x5A\x01\x08"
+    "\x2B\x06\x01\x04\x01\x92\x7C\x5A\x01\x09" "\x2B\x06\x01\x04\x01\x92\x7C\x5A\x01\x0B"
+    "\x2B\x06\x01\x04\x01\x92\x7C\x5A\x01\x0C" "\x2B\x06\x01\x04\x01\x97\x55\x01\x02"
+    "\x2B\x06\x01\x04\x01\x97\x55\x01\x05\x01" "\x2B\x06\x01\x04\x01\xA0\x6B\x01\x02\x01"
+    "\x2B\x06\x01\x04\x01\xA0\x6B\x01\x03\x01" "\x2B\x06\x01\x04\x01\xA0\x6B\x01\x03\x02"
+    "\x2B\x06\x01\x04\x01\xA0\x6B\x01\x04\x01" "\x2B\x06\x01\x04\x01\xA0\x6B\x01\x04\x03"
+    "\x2B\x06\x01\x04\x01\xA0\x6B\x01\x04\x04" "\x2B\x06\x01\x04\x01\xA0\x6B\x01\x04\x05"
+    "\x2B\x06\x01\x04\x01\xA0\x6B\x01\x04\x06" "\x2B\x06\x01\x04\x01\xA0\x6B\x01\x05\x01"
+    "\x2B\x06\x01\x04\x01\xA0\x6B\x01\x05\x03", "\x2B\x06\x01\x04\x01\xA0\x6B\x01\x05\x04"
+    "\x2B\x06\x01\x04\x01\xA0\x6B\x01\x05\x05" "\x2B\x06\x01\x04\x01\xA0\x6B\x01\x09\x01"
+    "\x2B\x06\x01\x04\x01\xA0\x6B\x01\x0A\x01" "\x2B\x06\x01\x04\x01\xA0\x6B\x01\x0B\x01"
+    "\x2B\x06\x01\x04\x01\xA0\x6B\x01\x0B\x03" "\x2B\x06\x01\x04\x01\xA0\x6B\x01\x0C\x02\x01"
+    "\x2B\x06\x01\x04\x01\xA0\x6B\x85\x1A\x0B\x08\x01\x01" "\x2B\x06\x01\x04\x01\xA0\x6B\x85\x1A\x0B\x08\x01\x02"
+    "\x2B\x06\x01\x04\x01\xA0\x6B\x85\x1A\x0B\x08\x01\x03" "\x2B\x06\x01\x04\x01\xA0\x6B\x85\x1A\x0B\x08\x02\x01"
+    "\x2B\x06\x01\x04\x01\xA0\x6B\x85\x1A\x0B\x0A\x02\x04" "\x2B\x06\x01\x04\x01\xA0\x6B\x85\x1A\x0B\x0A\x02\x05"
+    "\x2B\x06\x01\x04\x01\xA0\x6B\x85\x1A\x0B\x0A\x02\x06" "\x2B\x06\x01\x04\x01\xA5\x12\x01\x63\x01"
+    "\x2B\x06\x01\x04\x01\xA5\x12\x01\x63\x02" "\x2B\x06\x01\x04\x01\xA5\x12\x02\x63\x01"
+    "\x2B\x06\x01\x04\x01\xA9\x4A\x0A\x01\x01" "\x2B\x06\x01\x04\x01\xA9\x4A\x0A\x01\x02"
+    "\x2B\x06\x01\x04\x01\xA9\x4A\x0A\x01\x03" "\x2B\x06\x01\x04\x01\xA9\x4A\x0A\x01\x04"
+    "\x2B\x06\x01\x04\x01\xA9\x4A\x0A\x01\x05" "\x2B\x06\x01\x04\x01\xA9\x4A\x0A\x01\x06"
+    "\x2B\x06\x01\x04\x01\xA9\x4A\x0A\x01\x07" "\x2B\x06\x01\x04\x01\xA9\x4A\x0A\x01\x08"
+    "\x2B\x06\x01\x04\x01\xA9\x4A\x0A\x01\x09" "\x2B\x06\x01\x04\x01\xA9\x4A\x0A\x01\x0A"
+    "\x2B\x06\x01\x04\x01\xA9\x4A\x0A\x01\x0B" "\x2B\x06\x01\x04\x01\xA9\x4A\x0A\x01\x0C"
+    "\x2B\x06\x01\x04\x01\xA9\x4A\x0A\x02\x01" "\x2B\x06\x01\x04\x01\xA9\x4A\x0A\x02\x02"
+    "\x2B\x06\x01\x04\x01\xA9\x4A\x0A\x02\x03" "\x2B\x06\x01\x04\x01\xA9\x4A\x15\x02\x01"
+    "\x2B\x06\x01\x04\x01\xA9\x4A\x15\x02\x02" "\x2B\x06\x01\x04\x01\xA9\x4A\x15\x02\x03"
+    "\x2B\x06\x01\x04\x01\xA9\x4A\x15\x02\x04" "\x2B\x06\x01\x04\x01\xA9\x4A\x15\x02\x05"
+    "\x2B\x06\x01\x04\x01\xAA\x33\x01\x83\x05\x06\x14" "\x2B\x06\x01\x04\x01\xAA\x33\x01\x83\x05\x06\x15"
+    "\x2B\x06\x01\x04\x01\xAE\x23\x01\x01\x01\x01" "\x2B\x06\x01\x04\x01\xAE\x23\x01\x01\x01\x02"
+    "\x2B\x06\x01\x04\x01\xAE\x23\x01\x01\x01\x03" "\x2B\x06\x01\x04\x01\xAE\x23\x01\x01\x01\x04"
+    "\x2B\x06\x01\x04\x01\xAE\x23\x01\x01\x01\x05" "\x2B\x06\x01\x04\x01\xAE\x23\x01\x01\x01\x06"
+    "\x2B\x06\x01\x04\x01\xAE\x23\x01\x01\x01\x07" "\x2B\x06\x01\x04\x01\xAE\x23\x01\x01\x01\x08",
+    "\x2B\x06\x01\x04\x01\xAE\x23\x01\x01\x01\x09" "\x2B\x06\x01\x04\x01\xAE\x23\x01\x01\x01\x0A"
+    "\x2B\x06\x01\x04\x01\xAE\x23\x01\x01\x01\x0B" "\x2B\x06\x01\x04\x01\xAE\x23\x01\x01\x01\x0C"
+    "\x2B\x06\x01\x04\x01\xAE\x23\x01\x01\x01\x0D" "\x2B\x06\x01\x04\x01\xAE\x23\x01\x01\x01\x10"
+    "\x2B\x06\x01\x04\x01\xAE\x23\x01\x01\x02" "\x2B\x06\x01\x04\x01\xAE\x23\x01\x02\x01\x02"
+    "\x2B\x06\x01\x04\x01\xAE\x23\x01\x02\x01\x03" "\x2B\x06\x01\x04\x01\xAE\x23\x01\x02\x01\x04"
+    "\x2B\x06\x01\x04\x01\xAE\x23\x01\x02\x01\x05" "\x2B\x06\x01\x04\x01\xAE\x23\x01\x02\x01\x06"
+    "\x2B\x06\x01\x04\x01\xAE\x23\x01\x05\x01\x01" "\x2B\x06\x01\x04\x01\xAE\x23\x01\x06\x01\x01"
+    "\x2B\x06\x01\x04\x01\xAE\x23\x01\x06\x01\x02" "\x2B\x06\x01\x04\x01\xB7\x7D\x02\x01\x13"
+    "\x2B\x06\x01\x04\x01\xB7\x7D\x02\x01\x14" "\x2B\x06\x01\x04\x01\xB7\x7D\x02\x01\x15"
+    "\x2B\x06\x01\x04\x01\xB7\x7D\x02\x01\x16" "\x2B\x06\x01\x04\x01\xB7\x7D\x02\x01\x17"
+    "\x2B\x06\x01\x04\x01\xB7\x7D\x02\x01\x18" "\x2B\x06\x01\x04\x01\xB7\x7D\x02\x01\x19"
+    "\x2B\x06\x01\x04\x01\xB7\x7D\x02\x01\x1A" "\x2B\x06\x01\x04\x01\xB7\x7D\x02\x01\x1B"
+    "\x2B\x06\x01\x04\x01\xB7\x7D\x02\x01\x1C" "\x2B\x06\x01\x04\x01\xB7\x7D\x02\x01\x1D"
+    "\x2B\x06\x01\x04\x01\xB7\x7D\x02\x01\x1E" "\x2B\x06\x01\x04\x01\xB7\x7D\x02\x01\x1F"
+    "\x2B\x06\x01\x04\x01\xB7\x7D\x02\x01\x20" "\x2B\x06\x01\x04\x01\xB7\x7D\x02\x01\x21"
+    "\x2B\x06\x01\x04\x01\xB7\x7D\x02\x01\x22" "\x2B\x06\x01\x04\x01\xB7\x7D\x02\x01\x23"
+    "\x2B\x06\x01\x04\x01\xB7\x7D\x02\x01\x24" "\x2B\x06\x01\x04\x01\xB7\x7D\x02\x01\x25"
+    "\x2B\x06\x01\x04\x01\xB7\x7D\x02\x01\x26" "\x2B\x06\x01\x04\x01\xB7\x7D\x02\x01\x27"
+    "\x2B\x06\x01\x04\x01\xB7\x7D\x02\x01\x28" "\x2B\x06\x01\x04\x01\xB7\x7D\x02\x01\x29"
+    "\x2B\x06\x01\x04\x01\xB7\x7D\x02\x01\x2A" "\x2B\x06\x01\x04\x01\xB7\x7D\x02\x01\x2B"
+    "\x2B\x06\x01\x04\x01\xB7\x7D\x02\x01\x2C" "\x2B\x06\x01\x04\x01\xB7\x7D\x02\x01\x2D"
+    "\x2B\x06\x01\x04\x01\xB7\x7D\x02\x01\x2E" "\x2B\x06\x01\x04\x01\xB7\x7D\x02\x01\x2F"
+    "\x2B\x06\x01\x04\x01\xB7\x7D\x02\x01\x30" "\x2B\x06\x01\x04\x01\xB7\x7D\x02\x01\x31"
+    "\x2B\x06\x01\x04\x01\xB7\x7D\x02\x01\x33" "\x2B\x06\x01\x04\x01\xB7\x7D\x02\x01\x35"
+    "\x2B\x06\x01\x04\x01\xB7\x7D\x02\x01\x36", "\x2B\x06\x01\x04\x01\xB7\x7D\x02\x01\x37"
+    "\x2B\x06\x01\x04\x01\xB7\x7D\x02\x01\x3A" "\x2B\x06\x01\x04\x01\xB7\x7D\x02\x01\x3B"
+    "\x2B\x06\x01\x04\x01\xB7\x7D\x02\x01\x3C" "\x2B\x06\x01\x04\x01\xB7\x7D\x02\x01\x3D"
+    "\x2B\x06\x01\x04\x01\xB7\x7D\x02\x01\x3E" "\x2B\x06\x01\x04\x01\xB7\x7D\x02\x01\x3F"
+    "\x2B\x06\x01\x04\x01\xB7\x7D\x02\x01\x40" "\x2B\x06\x01\x04\x01\xB7\x7D\x02\x01\x41"
+    "\x2B\x06\x01\x04\x01\xB7\x7D\x02\x01\x42" "\x2B\x06\x01\x04\x01\xB7\x7D\x02\x01\x43"
+    "\x2B\x06\x01\x04\x01\xB7\x7D\x02\x01\x44" "\x2B\x06\x01\x04\x01\xB7\x7D\x02\x01\x45"
+    "\x2B\x06\x01\x04\x01\xB7\x7D\x02\x01\x46" "\x2B\x06\x01\x04\x01\xB7\x7D\x02\x01\x47"
+    "\x2B\x06\x01\x04\x01\xB7\x7D\x02\x01\x48" "\x2B\x06\x01\x04\x01\xB7\x7D\x02\x01\x49"
+    "\x2B\x06\x01\x04\x01\xB7\x7D\x02\x01\x4A" "\x2B\x06\x01\x04\x01\xB7\x7D\x02\x01\x4B"
+    "\x2B\x06\x01\x04\x01\xB7\x7D\x02\x01\x4C" "\x2B\x06\x01\x04\x01\xB7\x7D\x02\x01\x4D"
+    "\x2B\x06\x01\x04\x01\xB7\x7D\x02\x01\x4E" "\x2B\x06\x01\x04\x01\xB7\x7D\x02\x01\x4F"
+    "\x2B\x06\x01\x04\x01\xB7\x7D\x02\x01\x50" "\x2B\x06\x01\x04\x01\xB7\x7D\x02\x02\x04"
+    "\x2B\x06\x01\x04\x01\xB7\x7D\x02\x02\x05" "\x2B\x06\x01\x04\x01\xB7\x7D\x02\x02\x06"
+    "\x2B\x06\x01\x04\x01\xB7\x7D\x02\x02\x07" "\x2B\x06\x01\x04\x01\xB7\x7D\x02\x02\x08"
+    "\x2B\x06\x01\x04\x01\xB7\x7D\x02\x02\x09" "\x2B\x06\x01\x04\x01\xB7\x7D\x02\x02\x0A"
+    "\x2B\x06\x01\x04\x01\xB7\x7D\x02\x02\x0B" "\x2B\x06\x01\x04\x01\xB7\x7D\x02\x02\x0C"
+    "\x2B\x06\x01\x04\x01\xB7\x7D\x02\x02\x0E" "\x2B\x06\x01\x04\x01\xB7\x7D\x02\x02\x0F"
+    "\x2B\x06\x01\x04\x01\xB7\x7D\x02\x02\x10" "\x2B\x06\x01\x04\x01\xBF\x08" "\x2B\x06\x01\x04\x01\xBF\x08\x01"
     "\x2B\x06\x01\x04\x01\xBF\x08\x01\x01" "\x2B\x06\x01\x04\x01\xBF\x08\x01\x02"
-    "\x2B\x06\x01\x04\x01\xBF\x08\x01\x02\x01" "\x2B\x06\x01\x04\x01\xBF\x08\x01\x02\x01\x01",
+    "\x2B\x06\x01\x04\x01\xBF\x08\x01\x02\x01" "\x2B\x06\x01\x04\x01\xBF\x08\x01\x02\x01\x01"
     "\x2B\x06\x01\x04\x01\xBF\x08\x01\x02\x01\x01\x01" "\x2B\x06\x01\x04\x01\xBF\x08\x01\x02\x01\x01\x02"
     "\x2B\x06\x01\x04\x01\xBF\x08\x01\x02\x01\x01\x03" "\x2B\x06\x01\x04\x01\xBF\x08\x01\x02\x01\x01\x04"
     "\x2B\x06\x01\x04\x01\xBF\x08\x01\x02\x01\x01\x05" "\x2B\x06\x01\x04\x01\xBF\x08\x01\x02\x01\x01\x06"
-    "\x2B\x06\x01\x04\x01\xBF\x08\x01\x03" "\x2B\x06\x01\x04\x01\xBF\x08\x01\x03\x01"
+    "\x2B\x06\x01\x04\x01\xBF\x08\x01\x03" "\x2B\x06\x01\x04\x01\xBF\x08\x01\x03\x01",
     "\x2B\x06\x01\x04\x01\xBF\x08\x01\x03\x02" "\x2B\x06\x01\x04\x01\xBF\x08\x01\x03\x02\x01"
     "\x2B\x06\x01\x04\x01\xBF\x08\x01\x03\x02\x02" "\x2B\x06\x01\x04\x01\xBF\x08\x01\x03\x02\x02\x01"
     "\x2B\x06\x01\x04\x01\xBF\x08\x01\x03\x02\x02\x01\x01" "\x2B\x06\x01\x04\x01\xBF\x08\x01\x03\x02\x02\x01\x02"
@@ -938,11 +1328,11 @@ CONST_OID_TABLE const uint8_t const_oid_common_bytes[][512] = {
     "\x2B\x06\x01\x04\x01\xBF\x08\x01\x05\x01" "\x2B\x06\x01\x04\x01\xBF\x08\x01\x05\x02"
     "\x2B\x06\x01\x04\x01\xBF\x08\x01\x05\x03" "\x2B\x06\x01\x04\x01\xBF\x08\x01\x05\x03\x01"
     "\x2B\x06\x01\x04\x01\xBF\x08\x01\x05\x03\x01\x01" "\x2B\x06\x01\x04\x01\xBF\x08\x01\x05\x03\x01\x02"
-    "\x2B\x06\x01\x04\x01\xBF\x08\x01\x05\x03\x01\x03", "\x2B\x06\x01\x04\x01\xBF\x08\x01\x06"
+    "\x2B\x06\x01\x04\x01\xBF\x08\x01\x05\x03\x01\x03" "\x2B\x06\x01\x04\x01\xBF\x08\x01\x06"
     "\x2B\x06\x01\x04\x01\xBF\x08\x01\x07" "\x2B\x06\x01\x04\x01\xBF\x08\x01\x07\x01"
     "\x2B\x06\x01\x04\x01\xBF\x08\x01\x07\x01\x01" "\x2B\x06\x01\x04\x01\xBF\x08\x01\x07\x01\x02"
     "\x2B\x06\x01\x04\x01\xBF\x08\x01\x07\x01\x03" "\x2B\x06\x01\x04\x01\xBF\x08\x01\x07\x01\x04"
-    "\x2B\x06\x01\x04\x01\xBF\x08\x01\x07\x01\x04\x01" "\x2B\x06\x01\x04\x01\xBF\x08\x01\x07\x01\x04\x01\x02"
+    "\x2B\x06\x01\x04\x01\xBF\x08\x01\x07\x01\x04\x01" "\x2B\x06\x01\x04\x01\xBF\x08\x01\x07\x01\x04\x01\x02",
     "\x2B\x06\x01\x04\x01\xBF\x08\x01\x07\x01\x04\x01\x04" "\x2B\x06\x01\x04\x01\xBF\x08\x01\x07\x02"
     "\x2B\x06\x01\x04\x01\xBF\x08\x01\x07\x02\x01" "\x2B\x06\x01\x04\x01\xBF\x08\x01\x07\x02\x01\x01"
     "\x2B\x06\x01\x04\x01\xBF\x08\x01\x07\x02\x01\x01\x01" "\x2B\x06\x01\x04\x01\xBF\x08\x01\x07\x02\x01\x01\x02"
@@ -960,11 +1350,11 @@ CONST_OID_TABLE const uint8_t const_oid_common_bytes[][512] = {
     "\x2B\x06\x01\x04\x01\xBF\x08\x02\x02\x01\x01" "\x2B\x06\x01\x04\x01\xBF\x08\x02\x02\x01\x01\x01"
     "\x2B\x06\x01\x04\x01\xBF\x08\x02\x02\x01\x01\x02" "\x2B\x06\x01\x04\x01\xBF\x08\x02\x02\x01\x01\x03"
     "\x2B\x06\x01\x04\x01\xBF\x08\x02\x02\x02" "\x2B\x06\x01\x04\x01\xBF\x08\x02\x02\x02\x01"
-    "\x2B\x06\x01\x04\x01\xBF\x08\x02\x02\x02\x01\x01", "\x2B\x06\x01\x04\x01\xBF\x08\x02\x02\x02\x01\x02"
+    "\x2B\x06\x01\x04\x01\xBF\x08\x02\x02\x02\x01\x01" "\x2B\x06\x01\x04\x01\xBF\x08\x02\x02\x02\x01\x02"
     "\x2B\x06\x01\x04\x01\xBF\x08\x02\x02\x02\x01\x03" "\x2B\x06\x01\x04\x01\xBF\x08\x02\x02\x02\x01\x04"
     "\x2B\x06\x01\x04\x01\xBF\x08\x02\x02\x02\x01\x05" "\x2B\x06\x01\x04\x01\xBF\x08\x02\x03"
     "\x2B\x06\x01\x04\x01\xBF\x08\x02\x03\x00" "\x2B\x06\x01\x04\x01\xBF\x08\x02\x03\x00\x01"
-    "\x2B\x06\x01\x04\x01\xBF\x08\x02\x03\x01" "\x2B\x06\x01\x04\x01\xBF\x08\x02\x03\x02"
+    "\x2B\x06\x01\x04\x01\xBF\x08\x02\x03\x01" "\x2B\x06\x01\x04\x01\xBF\x08\x02\x03\x02",
     "\x2B\x06\x01\x04\x01\xBF\x08\x02\x03\x02\x01" "\x2B\x06\x01\x04\x01\xBF\x08\x02\x03\x02\x02"
     "\x2B\x06\x01\x04\x01\xBF\x08\x02\x81\x7F" "\x2B\x06\x01\x04\x01\xBF\x08\x02\x81\x7F\x01"
     "\x2B\x06\x01\x04\x01\xBF\x08\x02\x81\x7F\x02" "\x2B\x06\x01\x04\x01\xBF\x08\x02\x81\x7F\x02\x01"
@@ -983,17 +1373,35 @@ CONST_OID_TABLE const uint8_t const_oid_common_bytes[][512] = {
     "\x2B\x06\x01\x04\x01\xBF\x08\x03\x03\x09" "\x2B\x06\x01\x04\x01\xBF\x08\x03\x03\x0A"
     "\x2B\x06\x01\x04\x01\xBF\x08\x04" "\x2B\x06\x01\x04\x01\xBF\x08\x04\x00" "\x2B\x06\x01\x04\x01\xBF\x08\x04\x00\x01"
     "\x2B\x06\x01\x04\x01\xBF\x08\x04\x00\x02" "\x2B\x06\x01\x04\x01\xBF\x08\x04\x00\x03"
-    "\x2B\x06\x01\x04\x01\xBF\x08\x04\x01" "\x2B\x06\x01\x04\x01\xBF\x08\x05", "\x2B\x06\x01\x04\x01\xBF\x08\x05\x01"
+    "\x2B\x06\x01\x04\x01\xBF\x08\x04\x01" "\x2B\x06\x01\x04\x01\xBF\x08\x05" "\x2B\x06\x01\x04\x01\xBF\x08\x05\x01"
     "\x2B\x06\x01\x04\x01\xBF\x08\x05\x02" "\x2B\x06\x01\x04\x01\xBF\x08\x05\x02\x02"
     "\x2B\x06\x01\x04\x01\xBF\x08\x05\x02\x04" "\x2B\x06\x01\x04\x01\xBF\x08\x05\x02\x07"
     "\x2B\x06\x01\x04\x01\xBF\x08\x05\x02\x07\x01" "\x2B\x06\x01\x04\x01\xBF\x08\x05\x02\x07\x02"
-    "\x2B\x06\x01\x04\x01\xBF\x08\x05\x02\x08" "\x2B\x06\x01\x04\x01\xBF\x08\x05\x02\x09"
+    "\x2B\x06\x01\x04\x01\xBF\x08\x05\x02\x08" "\x2B\x06\x01\x04\x01\xBF\x08\x05\x02\x09",
     "\x2B\x06\x01\x04\x01\xBF\x08\xCE\x0F" "\x2B\x06\x01\x04\x01\xBF\x08\xCE\x0F\xCE\x0F"
     "\x2B\x06\x01\x04\x01\xD6\x79\x02\x04\x02" "\x2B\x06\x01\x04\x01\xD6\x79\x02\x04\x03"
     "\x2B\x06\x01\x04\x01\xD6\x79\x02\x04\x04" "\x2B\x06\x01\x04\x01\xD6\x79\x02\x04\x05"
     "\x2B\x06\x01\x04\x01\xDA\x47\x04\x0B" "\x2B\x06\x01\x04\x01\xDA\x47\x0F\x01"
-    "\x2B\x06\x01\x04\x01\x81\xA4\x10\x6C\x3F\x01" "\x2B\x06\x01\x04\x01\x82\xE4\x25\x01" "\x2B\x06\x01\x05"
-    "\x2B\x06\x01\x05\x02" "\x2B\x06\x01\x05\x02\x02" "\x2B\x06\x01\x05\x02\x03" "\x2B\x06\x01\x05\x02\x03\x01"
+    "\x2B\x06\x01\x04\x01\xFC\x51\x09\x01\x01" "\x2B\x06\x01\x04\x01\xFC\x51\x09\x01\x02"
+    "\x2B\x06\x01\x04\x01\xFC\x51\x09\x01\x03" "\x2B\x06\x01\x04\x01\xFC\x51\x09\x01\x04"
+    "\x2B\x06\x01\x04\x01\xFC\x51\x09\x01\x05" "\x2B\x06\x01\x04\x01\xFC\x51\x09\x01\x06"
+    "\x2B\x06\x01\x04\x01\xFC\x51\x09\x01\x07" "\x2B\x06\x01\x04\x01\xFC\x51\x09\x01\x08"
+    "\x2B\x06\x01\x04\x01\xFC\x51\x09\x01\x09" "\x2B\x06\x01\x04\x01\xFC\x51\x09\x01\x0A"
+    "\x2B\x06\x01\x04\x01\xFC\x51\x09\x02\x01" "\x2B\x06\x01\x04\x01\x81\xA4\x10\x6C\x3F\x01"
+    "\x2B\x06\x01\x04\x01\x81\xBF\x68\x83\x74\x01\x01\x01\x0D"
+    "\x2B\x06\x01\x04\x01\x81\xBF\x68\x83\x74\x01\x01\x02\x00" "\x2B\x06\x01\x04\x01\x81\xC4\x5A\x01\x00\x02\x03"
+    "\x2B\x06\x01\x04\x01\x81\xC4\x5A\x01\x02\x01" "\x2B\x06\x01\x04\x01\x81\xC4\x5A\x01\x02\x02"
+    "\x2B\x06\x01\x04\x01\x81\xC4\x5A\x01\x02\x03" "\x2B\x06\x01\x04\x01\x81\xC4\x5A\x01\x02\x04"
+    "\x2B\x06\x01\x04\x01\x81\xC4\x5A\x01\x02\x05" "\x2B\x06\x01\x04\x01\x81\xC4\x5A\x01\x02\x06"
+    "\x2B\x06\x01\x04\x01\x81\xC4\x5A\x01\x02\x07" "\x2B\x06\x01\x04\x01\x81\xC4\x5A\x01\x02\x08"
+    "\x2B\x06\x01\x04\x01\x81\xC4\x5A\x01\x02\x09" "\x2B\x06\x01\x04\x01\x81\xC4\x5A\x01\x02\x0A"
+    "\x2B\x06\x01\x04\x01\x81\xC4\x5A\x01\x02\x0B" "\x2B\x06\x01\x04\x01\x81\xC4\x5A\x01\x02\x0C"
+    "\x2B\x06\x01\x04\x01\x81\xC4\x5A\x01\x02\x0D" "\x2B\x06\x01\x04\x01\x81\xC4\x5A\x01\x02\x0E"
+    "\x2B\x06\x01\x04\x01\x81\xC4\x5A\x01\x02\x0F" "\x2B\x06\x01\x04\x01\x81\xC4\x5A\x01\x02\x11"
+    "\x2B\x06\x01\x04\x01\x81\xC4\x5A\x01\x02\x12" "\x2B\x06\x01\x04\x01\x81\xC4\x5A\x01\x02\x13"
+    "\x2B\x06\x01\x04\x01\x81\xC4\x5A\x01\x02\x14" "\x2B\x06\x01\x04\x01\x81\xC4\x5A\x01\x02\x15"
+    "\x2B\x06\x01\x04\x01\x82\xE4\x25\x01" "\x2B\x06\x01\x04\x01\x83\x92\x1B\x02\x01" "\x2B\x06\x01\x05"
+    "\x2B\x06\x01\x05\x02" "\x2B\x06\x01\x05\x02\x02" "\x2B\x06\x01\x05\x02\x03" "\x2B\x06\x01\x05\x02\x03\x01",
     "\x2B\x06\x01\x05\x02\x03\x02" "\x2B\x06\x01\x05\x02\x03\x03" "\x2B\x06\x01\x05\x02\x03\x04"
     "\x2B\x06\x01\x05\x02\x03\x05" "\x2B\x06\x01\x05\x02\x03\x06" "\x2B\x06\x01\x05\x02\x03\x06\x01"
     "\x2B\x06\x01\x05\x02\x03\x06\x02" "\x2B\x06\x01\x05\x02\x03\x06\x03" "\x2B\x06\x01\x05\x02\x03\x06\x04"
@@ -1006,17 +1414,20 @@ CONST_OID_TABLE const uint8_t const_oid_common_bytes[][512] = {
     "\x2B\x06\x01\x05\x05\x07\x00\x0F" "\x2B\x06\x01\x05\x05\x07\x00\x10" "\x2B\x06\x01\x05\x05\x07\x00\x32"
     "\x2B\x06\x01\x05\x05\x07\x00\x63" "\x2B\x06\x01\x05\x05\x07\x00\x64" "\x2B\x06\x01\x05\x05\x07\x01"
     "\x2B\x06\x01\x05\x05\x07\x01\x01" "\x2B\x06\x01\x05\x05\x07\x01\x02" "\x2B\x06\x01\x05\x05\x07\x01\x03"
-    "\x2B\x06\x01\x05\x05\x07\x01\x04", "\x2B\x06\x01\x05\x05\x07\x01\x05" "\x2B\x06\x01\x05\x05\x07\x01\x06"
+    "\x2B\x06\x01\x05\x05\x07\x01\x04" "\x2B\x06\x01\x05\x05\x07\x01\x05" "\x2B\x06\x01\x05\x05\x07\x01\x06"
     "\x2B\x06\x01\x05\x05\x07\x01\x07" "\x2B\x06\x01\x05\x05\x07\x01\x08" "\x2B\x06\x01\x05\x05\x07\x01\x09"
     "\x2B\x06\x01\x05\x05\x07\x01\x0A" "\x2B\x06\x01\x05\x05\x07\x01\x0B" "\x2B\x06\x01\x05\x05\x07\x01\x0C"
-    "\x2B\x06\x01\x05\x05\x07\x01\x0D" "\x2B\x06\x01\x05\x05\x07\x01\x0E" "\x2B\x06\x01\x05\x05\x07\x01\x18"
-    "\x2B\x06\x01\x05\x05\x07\x01\x19" "\x2B\x06\x01\x05\x05\x07\x01\x1A" "\x2B\x06\x01\x05\x05\x07\x01\x1C"
-    "\x2B\x06\x01\x05\x05\x07\x01\x1D" "\x2B\x06\x01\x05\x05\x07\x02\x01" "\x2B\x06\x01\x05\x05\x07\x02\x02"
-    "\x2B\x06\x01\x05\x05\x07\x02\x03" "\x2B\x06\x01\x05\x05\x07\x03" "\x2B\x06\x01\x05\x05\x07\x03\x01"
-    "\x2B\x06\x01\x05\x05\x07\x03\x02" "\x2B\x06\x01\x05\x05\x07\x03\x03" "\x2B\x06\x01\x05\x05\x07\x03\x04"
-    "\x2B\x06\x01\x05\x05\x07\x03\x05" "\x2B\x06\x01\x05\x05\x07\x03\x06" "\x2B\x06\x01\x05\x05\x07\x03\x07"
-    "\x2B\x06\x01\x05\x05\x07\x03\x08" "\x2B\x06\x01\x05\x05\x07\x03\x09" "\x2B\x06\x01\x05\x05\x07\x03\x0A"
-    "\x2B\x06\x01\x05\x05\x07\x03\x0D" "\x2B\x06\x01\x05\x05\x07\x03\x0E" "\x2B\x06\x01\x05\x05\x07\x03\x11"
+    "\x2B\x06\x01\x05\x05\x07\x01\x0D" "\x2B\x06\x01\x05\x05\x07\x01\x0E" "\x2B\x06\x01\x05\x05\x07\x01\x12"
+    "\x2B\x06\x01\x05\x05\x07\x01\x14" "\x2B\x06\x01\x05\x05\x07\x01\x15" "\x2B\x06\x01\x05\x05\x07\x01\x18"
+    "\x2B\x06\x01\x05\x05\x07\x01\x19" "\x2B\x06\x01\x05\x05\x07\x01\x1A" "\x2B\x06\x01\x05\x05\x07\x01\x1B"
+    "\x2B\x06\x01\x05\x05\x07\x01\x1C" "\x2B\x06\x01\x05\x05\x07\x01\x1D" "\x2B\x06\x01\x05\x05\x07\x01\x1E"
+    "\x2B\x06\x01\x05\x05\x07\x01\x1F" "\x2B\x06\x01\x05\x05\x07\x02" "\x2B\x06\x01\x05\x05\x07\x02\x01"
+    "\x2B\x06\x01\x05\x05\x07\x02\x02" "\x2B\x06\x01\x05\x05\x07\x02\x03" "\x2B\x06\x01\x05\x05\x07\x03"
+    "\x2B\x06\x01\x05\x05\x07\x03\x01", "\x2B\x06\x01\x05\x05\x07\x03\x02" "\x2B\x06\x01\x05\x05\x07\x03\x03"
+    "\x2B\x06\x01\x05\x05\x07\x03\x04" "\x2B\x06\x01\x05\x05\x07\x03\x05" "\x2B\x06\x01\x05\x05\x07\x03\x06"
+    "\x2B\x06\x01\x05\x05\x07\x03\x07" "\x2B\x06\x01\x05\x05\x07\x03\x08" "\x2B\x06\x01\x05\x05\x07\x03\x09"
+    "\x2B\x06\x01\x05\x05\x07\x03\x0A" "\x2B\x06\x01\x05\x05\x07\x03\x0D" "\x2B\x06\x01\x05\x05\x07\x03\x0E"
+    "\x2B\x06\x01\x05\x05\x07\x03\x0F" "\x2B\x06\x01\x05\x05\x07\x03\x10" "\x2B\x06\x01\x05\x05\x07\x03\x11"
     "\x2B\x06\x01\x05\x05\x07\x03\x12" "\x2B\x06\x01\x05\x05\x07\x03\x13" "\x2B\x06\x01\x05\x05\x07\x03\x14"
     "\x2B\x06\x01\x05\x05\x07\x03\x15" "\x2B\x06\x01\x05\x05\x07\x03\x16" "\x2B\x06\x01\x05\x05\x07\x03\x17"
     "\x2B\x06\x01\x05\x05\x07\x03\x18" "\x2B\x06\x01\x05\x05\x07\x03\x19" "\x2B\x06\x01\x05\x05\x07\x03\x1A"
@@ -1027,30 +1438,34 @@ CONST_OID_TABLE const uint8_t const_oid_common_bytes[][512] = {
     "\x2B\x06\x01\x05\x05\x07\x04\x15" "\x2B\x06\x01\x05\x05\x07\x04\x16" "\x2B\x06\x01\x05\x05\x07\x04\x17"
     "\x2B\x06\x01\x05\x05\x07\x05\x01\x07" "\x2B\x06\x01\x05\x05\x07\x05\x01\x0B" "\x2B\x06\x01\x05\x05\x07\x05\x01\x0C"
     "\x2B\x06\x01\x05\x05\x07\x06\x01" "\x2B\x06\x01\x05\x05\x07\x06\x03" "\x2B\x06\x01\x05\x05\x07\x06\x04"
-    "\x2B\x06\x01\x05\x05\x07\x06\x1E", "\x2B\x06\x01\x05\x05\x07\x06\x1F" "\x2B\x06\x01\x05\x05\x07\x06\x20"
-    "\x2B\x06\x01\x05\x05\x07\x06\x21" "\x2B\x06\x01\x05\x05\x07\x08\x01" "\x2B\x06\x01\x05\x05\x07\x08\x03"
+    "\x2B\x06\x01\x05\x05\x07\x06\x1E" "\x2B\x06\x01\x05\x05\x07\x06\x1F" "\x2B\x06\x01\x05\x05\x07\x06\x20"
+    "\x2B\x06\x01\x05\x05\x07\x06\x21" "\x2B\x06\x01\x05\x05\x07\x07\x23" "\x2B\x06\x01\x05\x05\x07\x07\x24"
+    "\x2B\x06\x01\x05\x05\x07\x07\x25" "\x2B\x06\x01\x05\x05\x07\x08\x01" "\x2B\x06\x01\x05\x05\x07\x08\x03"
     "\x2B\x06\x01\x05\x05\x07\x08\x04" "\x2B\x06\x01\x05\x05\x07\x08\x05" "\x2B\x06\x01\x05\x05\x07\x08\x06"
     "\x2B\x06\x01\x05\x05\x07\x08\x07" "\x2B\x06\x01\x05\x05\x07\x08\x08" "\x2B\x06\x01\x05\x05\x07\x08\x09"
     "\x2B\x06\x01\x05\x05\x07\x09\x01" "\x2B\x06\x01\x05\x05\x07\x09\x02" "\x2B\x06\x01\x05\x05\x07\x09\x03"
-    "\x2B\x06\x01\x05\x05\x07\x09\x04" "\x2B\x06\x01\x05\x05\x07\x09\x05" "\x2B\x06\x01\x05\x05\x07\x0A\x05"
-    "\x2B\x06\x01\x05\x05\x07\x0B\x01" "\x2B\x06\x01\x05\x05\x07\x0B\x02" "\x2B\x06\x01\x05\x05\x07\x0C\x01"
-    "\x2B\x06\x01\x05\x05\x07\x0E\x02" "\x2B\x06\x01\x05\x05\x07\x0E\x03" "\x2B\x06\x01\x05\x05\x07\x10\x02"
-    "\x2B\x06\x01\x05\x05\x07\x10\x04" "\x2B\x06\x01\x05\x05\x07\x15\x00" "\x2B\x06\x01\x05\x05\x07\x15\x01"
-    "\x2B\x06\x01\x05\x05\x07\x15\x02" "\x2B\x06\x01\x05\x05\x07\x30" "\x2B\x06\x01\x05\x05\x07\x30\x01"
-    "\x2B\x06\x01\x05\x05\x07\x30\x01\x01" "\x2B\x06\x01\x05\x05\x07\x30\x01\x02" "\x2B\x06\x01\x05\x05\x07\x30\x01\x03"
-    "\x2B\x06\x01\x05\x05\x07\x30\x01\x04" "\x2B\x06\x01\x05\x05\x07\x30\x01\x05" "\x2B\x06\x01\x05\x05\x07\x30\x01\x06"
-    "\x2B\x06\x01\x05\x05\x07\x30\x01\x07" "\x2B\x06\x01\x05\x05\x07\x30\x01\x08" "\x2B\x06\x01\x05\x05\x07\x30\x01\x09"
-    "\x2B\x06\x01\x05\x05\x07\x30\x01\x0A" "\x2B\x06\x01\x05\x05\x07\x30\x01\x0B" "\x2B\x06\x01\x05\x05\x07\x30\x02"
-    "\x2B\x06\x01\x05\x05\x07\x30\x03" "\x2B\x06\x01\x05\x05\x07\x30\x04" "\x2B\x06\x01\x05\x05\x07\x30\x05"
-    "\x2B\x06\x01\x05\x05\x07\x30\x06" "\x2B\x06\x01\x05\x05\x07\x30\x07" "\x2B\x06\x01\x05\x05\x07\x30\x0A"
-    "\x2B\x06\x01\x05\x05\x07\x30\x0B" "\x2B\x06\x01\x05\x05\x07\x30\x0C" "\x2B\x06\x01\x05\x05\x07\x30\x0D"
-    "\x2B\x06\x01\x05\x05\x07\x30\x0E" "\x2B\x06\x01\x05\x05\x08\x01\x01" "\x2B\x06\x01\x05\x05\x08\x02\x01"
-    "\x2B\x06\x01\x05\x05\x08\x02\x02" "\x2B\x06\x01\x05\x05\x09" "\x2B\x06\x01\x05\x06\x03" "\x2B\x06\x01\x05\x06\x04"
-    "\x2B\x06\x01\x06" "\x2B\x06\x01\x06\x01" "\x2B\x06\x01\x06\x02" "\x2B\x06\x01\x06\x03" "\x2B\x06\x01\x06\x03\x01"
-    "\x2B\x06\x01\x06\x03\x01\x01" "\x2B\x06\x01\x06\x03\x01\x01\x04" "\x2B\x06\x01\x06\x03\x01\x01\x04\x01",
-    "\x2B\x06\x01\x06\x03\x01\x01\x04\x03" "\x2B\x06\x01\x06\x03\x01\x01\x05" "\x2B\x06\x01\x06\x03\x01\x01\x05\x01"
-    "\x2B\x06\x01\x06\x03\x01\x01\x05\x02" "\x2B\x06\x01\x06\x03\x01\x01\x05\x03" "\x2B\x06\x01\x06\x03\x01\x01\x05\x04"
-    "\x2B\x06\x01\x06\x03\x01\x01\x05\x05" "\x2B\x06\x01\x06\x03\x01\x01\x06" "\x2B\x06\x01\x06\x03\x01\x01\x06\x01"
+    "\x2B\x06\x01\x05\x05\x07\x09\x04", "\x2B\x06\x01\x05\x05\x07\x09\x05" "\x2B\x06\x01\x05\x05\x07\x0A\x01"
+    "\x2B\x06\x01\x05\x05\x07\x0A\x02" "\x2B\x06\x01\x05\x05\x07\x0A\x03" "\x2B\x06\x01\x05\x05\x07\x0A\x05"
+    "\x2B\x06\x01\x05\x05\x07\x0A\x07" "\x2B\x06\x01\x05\x05\x07\x0B\x01" "\x2B\x06\x01\x05\x05\x07\x0B\x02"
+    "\x2B\x06\x01\x05\x05\x07\x0C\x01" "\x2B\x06\x01\x05\x05\x07\x0E\x02" "\x2B\x06\x01\x05\x05\x07\x0E\x03"
+    "\x2B\x06\x01\x05\x05\x07\x10\x02" "\x2B\x06\x01\x05\x05\x07\x10\x04" "\x2B\x06\x01\x05\x05\x07\x14\x01"
+    "\x2B\x06\x01\x05\x05\x07\x14\x02" "\x2B\x06\x01\x05\x05\x07\x14\x03" "\x2B\x06\x01\x05\x05\x07\x15\x00"
+    "\x2B\x06\x01\x05\x05\x07\x15\x01" "\x2B\x06\x01\x05\x05\x07\x15\x02" "\x2B\x06\x01\x05\x05\x07\x30"
+    "\x2B\x06\x01\x05\x05\x07\x30\x01" "\x2B\x06\x01\x05\x05\x07\x30\x01\x01" "\x2B\x06\x01\x05\x05\x07\x30\x01\x02"
+    "\x2B\x06\x01\x05\x05\x07\x30\x01\x03" "\x2B\x06\x01\x05\x05\x07\x30\x01\x04" "\x2B\x06\x01\x05\x05\x07\x30\x01\x05"
+    "\x2B\x06\x01\x05\x05\x07\x30\x01\x06" "\x2B\x06\x01\x05\x05\x07\x30\x01\x07" "\x2B\x06\x01\x05\x05\x07\x30\x01\x08"
+    "\x2B\x06\x01\x05\x05\x07\x30\x01\x09" "\x2B\x06\x01\x05\x05\x07\x30\x01\x0A" "\x2B\x06\x01\x05\x05\x07\x30\x01\x0B"
+    "\x2B\x06\x01\x05\x05\x07\x30\x02" "\x2B\x06\x01\x05\x05\x07\x30\x03" "\x2B\x06\x01\x05\x05\x07\x30\x04"
+    "\x2B\x06\x01\x05\x05\x07\x30\x05" "\x2B\x06\x01\x05\x05\x07\x30\x06" "\x2B\x06\x01\x05\x05\x07\x30\x07"
+    "\x2B\x06\x01\x05\x05\x07\x30\x0A" "\x2B\x06\x01\x05\x05\x07\x30\x0B" "\x2B\x06\x01\x05\x05\x07\x30\x0C"
+    "\x2B\x06\x01\x05\x05\x07\x30\x0D" "\x2B\x06\x01\x05\x05\x07\x30\x0E" "\x2B\x06\x01\x05\x05\x08\x01\x01"
+    "\x2B\x06\x01\x05\x05\x08\x02\x01" "\x2B\x06\x01\x05\x05\x08\x02\x02" "\x2B\x06\x01\x05\x05\x09"
+    "\x2B\x06\x01\x05\x06\x03" "\x2B\x06\x01\x05\x06\x04" "\x2B\x06\x01\x06" "\x2B\x06\x01\x06\x01"
+    "\x2B\x06\x01\x06\x02" "\x2B\x06\x01\x06\x03" "\x2B\x06\x01\x06\x03\x01" "\x2B\x06\x01\x06\x03\x01\x01"
+    "\x2B\x06\x01\x06\x03\x01\x01\x04" "\x2B\x06\x01\x06\x03\x01\x01\x04\x01" "\x2B\x06\x01\x06\x03\x01\x01\x04\x03"
+    "\x2B\x06\x01\x06\x03\x01\x01\x05" "\x2B\x06\x01\x06\x03\x01\x01\x05\x01" "\x2B\x06\x01\x06\x03\x01\x01\x05\x02"
+    "\x2B\x06\x01\x06\x03\x01\x01\x05\x03" "\x2B\x06\x01\x06\x03\x01\x01\x05\x04"
+    "\x2B\x06\x01\x06\x03\x01\x01\x05\x05", "\x2B\x06\x01\x06\x03\x01\x01\x06" "\x2B\x06\x01\x06\x03\x01\x01\x06\x01"
     "\x2B\x06\x01\x06\x03\x01\x02" "\x2B\x06\x01\x06\x03\x01\x02\x01" "\x2B\x06\x01\x06\x03\x01\x02\x01\x02"
     "\x2B\x06\x01\x06\x03\x01\x02\x01\x03" "\x2B\x06\x01\x06\x03\x01\x02\x02" "\x2B\x06\x01\x06\x03\x01\x02\x02\x05"
     "\x2B\x06\x01\x06\x03\x01\x02\x02\x06" "\x2B\x06\x01\x06\x03\x01\x02\x02\x07" "\x2B\x06\x01\x06\x03\x01\x02\x02\x08"
@@ -1068,10 +1483,10 @@ CONST_OID_TABLE const uint8_t const_oid_common_bytes[][512] = {
     "\x2B\x06\x01\x06\x03\x0F\x01\x02\x02\x01\x01" "\x2B\x06\x01\x06\x03\x0F\x01\x02\x02\x01\x02"
     "\x2B\x06\x01\x06\x03\x0F\x01\x02\x02\x01\x03" "\x2B\x06\x01\x06\x03\x0F\x01\x02\x02\x01\x04"
     "\x2B\x06\x01\x06\x03\x0F\x01\x02\x02\x01\x05" "\x2B\x06\x01\x06\x03\x0F\x01\x02\x02\x01\x06"
-    "\x2B\x06\x01\x06\x03\x0F\x01\x02\x02\x01\x07", "\x2B\x06\x01\x06\x03\x0F\x01\x02\x02\x01\x08"
+    "\x2B\x06\x01\x06\x03\x0F\x01\x02\x02\x01\x07" "\x2B\x06\x01\x06\x03\x0F\x01\x02\x02\x01\x08"
     "\x2B\x06\x01\x06\x03\x0F\x01\x02\x02\x01\x09" "\x2B\x06\x01\x06\x03\x0F\x01\x02\x02\x01\x0A"
     "\x2B\x06\x01\x06\x03\x0F\x01\x02\x02\x01\x0B" "\x2B\x06\x01\x06\x03\x0F\x01\x02\x02\x01\x0C"
-    "\x2B\x06\x01\x06\x03\x0F\x01\x02\x02\x01\x0D" "\x2B\x06\x01\x06\x03\x10" "\x2B\x06\x01\x06\x03\x10\x01"
+    "\x2B\x06\x01\x06\x03\x0F\x01\x02\x02\x01\x0D", "\x2B\x06\x01\x06\x03\x10" "\x2B\x06\x01\x06\x03\x10\x01"
     "\x2B\x06\x01\x06\x03\x10\x01\x01" "\x2B\x06\x01\x06\x03\x10\x01\x01\x01" "\x2B\x06\x01\x06\x03\x10\x01\x01\x01\x01"
     "\x2B\x06\x01\x06\x03\x10\x01\x01\x01\x02" "\x2B\x06\x01\x06\x03\x10\x01\x02" "\x2B\x06\x01\x06\x03\x10\x01\x02\x01"
     "\x2B\x06\x01\x06\x03\x10\x01\x02\x01\x01" "\x2B\x06\x01\x06\x03\x10\x01\x02\x01\x02"
@@ -1087,1120 +1502,1457 @@ CONST_OID_TABLE const uint8_t const_oid_common_bytes[][512] = {
     "\x2B\x06\x01\x06\x03\x10\x01\x05\x02\x01\x03" "\x2B\x06\x01\x06\x03\x10\x01\x05\x02\x01\x04"
     "\x2B\x06\x01\x06\x03\x10\x01\x05\x02\x01\x05" "\x2B\x06\x01\x06\x03\x10\x01\x05\x02\x01\x06" "\x2B\x06\x01\x07"
     "\x2B\x06\x01\x07\x01" "\x2B\x06\x01\x07\x01\x01" "\x2B\x06\x01\x07\x01\x01\x01" "\x2B\x06\x01\x07\x01\x01\x02"
-    "\x2B\x06\x01\x07\x01\x02" "\x2B\x0E\x03\x02" "\x2B\x0E\x03\x02\x03" "\x2B\x0E\x03\x02\x06" "\x2B\x0E\x03\x02\x07"
-    "\x2B\x0E\x03\x02\x08" "\x2B\x0E\x03\x02\x09" "\x2B\x0E\x03\x02\x0B" "\x2B\x0E\x03\x02\x0C" "\x2B\x0E\x03\x02\x0D"
-    "\x2B\x0E\x03\x02\x0F" "\x2B\x0E\x03\x02\x11" "\x2B\x0E\x03\x02\x12" "\x2B\x0E\x03\x02\x1A" "\x2B\x0E\x03\x02\x1B"
-    "\x2B\x0E\x03\x02\x1D" "\x2B\x24\x03\x02\x01", "\x2B\x24\x03\x03\x01\x02" "\x2B\x24\x08\x03\x03"
-    "\x2B\x65\x01\x04\x01" "\x2B\x65\x6E" "\x2B\x65\x6F" "\x2B\x65\x70" "\x2B\x65\x71" "\x2B\x6F" "\x2B\x6F\x02\x8C\x53"
-    "\x2B\x6F\x02\x8C\x53\x00\x01\x01" "\x2B\x6F\x02\x8C\x53\x00\x01\x02" "\x2B\x81\x04" "\x2B\x81\x04\x00\x01"
-    "\x2B\x81\x04\x00\x02" "\x2B\x81\x04\x00\x03" "\x2B\x81\x04\x00\x04" "\x2B\x81\x04\x00\x05" "\x2B\x81\x04\x00\x06"
-    "\x2B\x81\x04\x00\x07" "\x2B\x81\x04\x00\x08" "\x2B\x81\x04\x00\x09" "\x2B\x81\x04\x00\x0A" "\x2B\x81\x04\x00\x0F"
-    "\x2B\x81\x04\x00\x10" "\x2B\x81\x04\x00\x11" "\x2B\x81\x04\x00\x16" "\x2B\x81\x04\x00\x17" "\x2B\x81\x04\x00\x18"
-    "\x2B\x81\x04\x00\x19" "\x2B\x81\x04\x00\x1A" "\x2B\x81\x04\x00\x1B" "\x2B\x81\x04\x00\x1C" "\x2B\x81\x04\x00\x1D"
-    "\x2B\x81\x04\x00\x1E" "\x2B\x81\x04\x00\x1F" "\x2B\x81\x04\x00\x20" "\x2B\x81\x04\x00\x21" "\x2B\x81\x04\x00\x22"
-    "\x2B\x81\x04\x00\x23" "\x2B\x81\x04\x00\x24" "\x2B\x81\x04\x00\x25" "\x2B\x81\x04\x00\x26" "\x2B\x81\x04\x00\x27"
-    "\x2B\x81\x04\x01\x0C" "\x55" "\x55\x01\x05" "\x55\x01\x05\x37" "\x55\x04" "\x55\x04\x01" "\x55\x04\x03"
-    "\x55\x04\x04" "\x55\x04\x05" "\x55\x04\x06" "\x55\x04\x07" "\x55\x04\x08" "\x55\x04\x09" "\x55\x04\x0A"
-    "\x55\x04\x0B" "\x55\x04\x0C" "\x55\x04\x0F" "\x55\x04\x10" "\x55\x04\x11" "\x55\x04\x12" "\x55\x04\x13\x01"
-    "\x55\x04\x14" "\x55\x04\x17" "\x55\x04\x22" "\x55\x04\x23" "\x55\x04\x24" "\x55\x04\x25" "\x55\x04\x27"
-    "\x55\x04\x29" "\x55\x04\x2A" "\x55\x04\x2B" "\x55\x04\x2C" "\x55\x04\x2D" "\x55\x04\x2E" "\x55\x04\x31"
-    "\x55\x04\x33" "\x55\x04\x3A" "\x55\x04\x3B" "\x55\x04\x3D" "\x55\x04\x3E" "\x55\x04\x3F" "\x55\x04\x41"
+    "\x2B\x06\x01\x07\x01\x02" "\x2B\x0E" "\x2B\x0E\x03\x02" "\x2B\x0E\x03\x02\x03" "\x2B\x0E\x03\x02\x06"
+    "\x2B\x0E\x03\x02\x07" "\x2B\x0E\x03\x02\x08" "\x2B\x0E\x03\x02\x09" "\x2B\x0E\x03\x02\x0A" "\x2B\x0E\x03\x02\x0B"
+    "\x2B\x0E\x03\x02\x0C" "\x2B\x0E\x03\x02\x0D" "\x2B\x0E\x03\x02\x0F" "\x2B\x0E\x03\x02\x11" "\x2B\x0E\x03\x02\x12"
+    "\x2B\x0E\x03\x02\x1A" "\x2B\x0E\x03\x02\x1B" "\x2B\x0E\x03\x02\x1D" "\x2B\x1A\x00\xA2\x36\x00\x04\x02"
+    "\x2B\x24\x03\x02\x01" "\x2B\x24\x03\x03\x01\x02" "\x2B\x24\x08\x03\x03" "\x2B\x65\x01\x04\x01" "\x2B\x65\x6E"
+    "\x2B\x65\x6F" "\x2B\x65\x70" "\x2B\x65\x71" "\x2B\x6F" "\x2B\x6F\x02\x8C\x53" "\x2B\x6F\x02\x8C\x53\x00\x01\x01"
+    "\x2B\x6F\x02\x8C\x53\x00\x01\x02" "\x2B\x81\x04", "\x2B\x81\x04\x00\x01" "\x2B\x81\x04\x00\x02"
+    "\x2B\x81\x04\x00\x03" "\x2B\x81\x04\x00\x04" "\x2B\x81\x04\x00\x05" "\x2B\x81\x04\x00\x06" "\x2B\x81\x04\x00\x07"
+    "\x2B\x81\x04\x00\x08" "\x2B\x81\x04\x00\x09" "\x2B\x81\x04\x00\x0A" "\x2B\x81\x04\x00\x0F" "\x2B\x81\x04\x00\x10"
+    "\x2B\x81\x04\x00\x11" "\x2B\x81\x04\x00\x16" "\x2B\x81\x04\x00\x17" "\x2B\x81\x04\x00\x18" "\x2B\x81\x04\x00\x19"
+    "\x2B\x81\x04\x00\x1A" "\x2B\x81\x04\x00\x1B" "\x2B\x81\x04\x00\x1C" "\x2B\x81\x04\x00\x1D" "\x2B\x81\x04\x00\x1E"
+    "\x2B\x81\x04\x00\x1F" "\x2B\x81\x04\x00\x20" "\x2B\x81\x04\x00\x21" "\x2B\x81\x04\x00\x22" "\x2B\x81\x04\x00\x23"
+    "\x2B\x81\x04\x00\x24" "\x2B\x81\x04\x00\x25" "\x2B\x81\x04\x00\x26" "\x2B\x81\x04\x00\x27" "\x2B\x81\x04\x01\x0C"
+    "\x55" "\x55\x01\x05" "\x55\x01\x05\x37" "\x55\x04" "\x55\x04\x01" "\x55\x04\x03" "\x55\x04\x04" "\x55\x04\x05"
+    "\x55\x04\x06" "\x55\x04\x07" "\x55\x04\x08" "\x55\x04\x09" "\x55\x04\x0A" "\x55\x04\x0B" "\x55\x04\x0C"
+    "\x55\x04\x0F" "\x55\x04\x10" "\x55\x04\x11" "\x55\x04\x12" "\x55\x04\x13\x01" "\x55\x04\x14" "\x55\x04\x17"
+    "\x55\x04\x22" "\x55\x04\x23" "\x55\x04\x24" "\x55\x04\x25" "\x55\x04\x27" "\x55\x04\x29" "\x55\x04\x2A"
+    "\x55\x04\x2B" "\x55\x04\x2C" "\x55\x04\x2D" "\x55\x04\x2E" "\x55\x04\x31" "\x55\x04\x33" "\x55\x04\x34"
+    "\x55\x04\x37" "\x55\x04\x3A" "\x55\x04\x3B" "\x55\x04\x3D" "\x55\x04\x3E" "\x55\x04\x3F" "\x55\x04\x41"
     "\x55\x04\x46" "\x55\x04\x47" "\x55\x04\x48" "\x55\x04\x49" "\x55\x04\x4A" "\x55\x04\x4B" "\x55\x04\x4C"
     "\x55\x04\x61" "\x55\x04\x62" "\x55\x04\x63" "\x55\x04\x64" "\x55\x06\x18" "\x55\x06\x19" "\x55\x06\x1A"
     "\x55\x06\x1B" "\x55\x06\x20" "\x55\x06\x21" "\x55\x06\x22" "\x55\x08" "\x55\x08\x01\x01" "\x55\x08\x03\x64"
-    "\x55\x08\x03\x65" "\x55\x0D\x13" "\x55\x0D\x2D" "\x55\x0D\x2E" "\x55\x12\x09" "\x55\x1D\x01" "\x55\x1D\x02"
-    "\x55\x1D\x04" "\x55\x1D\x07" "\x55\x1D\x08" "\x55\x1D\x09" "\x55\x1D\x0A" "\x55\x1D\x0E" "\x55\x1D\x0F"
-    "\x55\x1D\x10" "\x55\x1D\x11" "\x55\x1D\x12" "\x55\x1D\x13" "\x55\x1D\x14" "\x55\x1D\x15" "\x55\x1D\x17"
-    "\x55\x1D\x18" "\x55\x1D\x1B" "\x55\x1D\x1C" "\x55\x1D\x1D" "\x55\x1D\x1E" "\x55\x1D\x1F" "\x55\x1D\x20"
-    "\x55\x1D\x20\x00" "\x55\x1D\x21" "\x55\x1D\x23" "\x55\x1D\x24" "\x55\x1D\x25" "\x55\x1D\x25\x00" "\x55\x1D\x26",
-    "\x55\x1D\x27" "\x55\x1D\x29" "\x55\x1D\x2A" "\x55\x1D\x2B" "\x55\x1D\x2E" "\x55\x1D\x30" "\x55\x1D\x31"
-    "\x55\x1D\x32" "\x55\x1D\x34" "\x55\x1D\x36" "\x55\x1D\x37" "\x55\x1D\x38" "\x55\x1D\x39" "\x55\x1D\x3D"
-    "\x55\x1D\x3E" "\x55\x1D\x3F" "\x55\x1D\x40" "\x55\x1D\x41" "\x55\x1D\x42" "\x55\x1D\x43" "\x55\x1D\x44"
-    "\x55\x1D\x45" "\x55\x1D\x46" "\x55\x1D\x47" "\x55\x1D\x48" "\x55\x1D\x49" "\x55\x1D\x4A" "\x55\x1D\x4B"
-    "\x60\x86\x48\x01\x65\x03\x04\x01\x01" "\x60\x86\x48\x01\x65\x03\x04\x01\x02" "\x60\x86\x48\x01\x65\x03\x04\x01\x03"
-    "\x60\x86\x48\x01\x65\x03\x04\x01\x04" "\x60\x86\x48\x01\x65\x03\x04\x01\x05" "\x60\x86\x48\x01\x65\x03\x04\x01\x06"
-    "\x60\x86\x48\x01\x65\x03\x04\x01\x07" "\x60\x86\x48\x01\x65\x03\x04\x01\x08" "\x60\x86\x48\x01\x65\x03\x04\x01\x15"
-    "\x60\x86\x48\x01\x65\x03\x04\x01\x16" "\x60\x86\x48\x01\x65\x03\x04\x01\x17" "\x60\x86\x48\x01\x65\x03\x04\x01\x18"
-    "\x60\x86\x48\x01\x65\x03\x04\x01\x19" "\x60\x86\x48\x01\x65\x03\x04\x01\x1A" "\x60\x86\x48\x01\x65\x03\x04\x01\x1B"
-    "\x60\x86\x48\x01\x65\x03\x04\x01\x1C" "\x60\x86\x48\x01\x65\x03\x04\x01\x29" "\x60\x86\x48\x01\x65\x03\x04\x01\x2A"
-    "\x60\x86\x48\x01\x65\x03\x04\x01\x2B" "\x60\x86\x48\x01\x65\x03\x04\x01\x2C" "\x60\x86\x48\x01\x65\x03\x04\x01\x2D"
-    "\x60\x86\x48\x01\x65\x03\x04\x01\x2E" "\x60\x86\x48\x01\x65\x03\x04\x01\x2F" "\x60\x86\x48\x01\x65\x03\x04\x01\x30"
-    "\x60\x86\x48\x01\x65\x03\x04\x02\x01" "\x60\x86\x48\x01\x65\x03\x04\x02\x02" "\x60\x86\x48\x01\x65\x03\x04\x02\x03"
-    "\x60\x86\x48\x01\x65\x03\x04\x02\x04" "\x60\x86\x48\x01\x65\x03\x04\x02\x05" "\x60\x86\x48\x01\x65\x03\x04\x02\x06"
-    "\x60\x86\x48\x01\x65\x03\x04\x02\x07" "\x60\x86\x48\x01\x65\x03\x04\x02\x08" "\x60\x86\x48\x01\x65\x03\x04\x02\x09"
-    "\x60\x86\x48\x01\x65\x03\x04\x02\x0A" "\x60\x86\x48\x01\x65\x03\x04\x02\x0B" "\x60\x86\x48\x01\x65\x03\x04\x02\x0C"
-    "\x60\x86\x48\x01\x65\x03\x04\x02\x0D" "\x60\x86\x48\x01\x65\x03\x04\x02\x0E" "\x60\x86\x48\x01\x65\x03\x04\x02\x0F"
-    "\x60\x86\x48\x01\x65\x03\x04\x02\x10" "\x60\x86\x48\x01\x65\x03\x04\x02\x11" "\x60\x86\x48\x01\x65\x03\x04\x02\x12"
-    "\x60\x86\x48\x01\x65\x03\x04\x02\x13" "\x60\x86\x48\x01\x65\x03\x04\x02\x14" "\x60\x86\x48\x01\x65\x03\x04\x03\x01"
-    "\x60\x86\x48\x01\x65\x03\x04\x03\x02" "\x60\x86\x48\x01\x65\x03\x04\x03\x03",
-    "\x60\x86\x48\x01\x65\x03\x04\x03\x04" "\x60\x86\x48\x01\x65\x03\x04\x03\x05" "\x60\x86\x48\x01\x65\x03\x04\x03\x06"
-    "\x60\x86\x48\x01\x65\x03\x04\x03\x07" "\x60\x86\x48\x01\x65\x03\x04\x03\x08" "\x60\x86\x48\x01\x65\x03\x04\x03\x09"
-    "\x60\x86\x48\x01\x65\x03\x04\x03\x0A" "\x60\x86\x48\x01\x65\x03\x04\x03\x0B" "\x60\x86\x48\x01\x65\x03\x04\x03\x0C"
-    "\x60\x86\x48\x01\x65\x03\x04\x03\x0D" "\x60\x86\x48\x01\x65\x03\x04\x03\x0E" "\x60\x86\x48\x01\x65\x03\x04\x03\x0F"
-    "\x60\x86\x48\x01\x65\x03\x04\x03\x10" "\x60\x86\x48\x01\x65\x03\x04\x03\x11" "\x60\x86\x48\x01\x65\x03\x04\x03\x12"
-    "\x60\x86\x48\x01\x65\x03\x04\x03\x13" "\x60\x86\x48\x01\x65\x03\x04\x03\x14" "\x60\x86\x48\x01\x65\x03\x04\x03\x15"
-    "\x60\x86\x48\x01\x65\x03\x04\x03\x16" "\x60\x86\x48\x01\x65\x03\x04\x03\x17" "\x60\x86\x48\x01\x65\x03\x04\x03\x18"
-    "\x60\x86\x48\x01\x65\x03\x04\x03\x19" "\x60\x86\x48\x01\x65\x03\x04\x03\x1A" "\x60\x86\x48\x01\x65\x03\x04\x03\x1B"
-    "\x60\x86\x48\x01\x65\x03\x04\x03\x1C" "\x60\x86\x48\x01\x65\x03\x04\x03\x1D" "\x60\x86\x48\x01\x65\x03\x04\x03\x1E"
-    "\x60\x86\x48\x01\x65\x03\x04\x03\x1F" "\x60\x86\x48\x01\x65\x03\x04\x03\x20" "\x60\x86\x48\x01\x65\x03\x04\x03\x21"
-    "\x60\x86\x48\x01\x65\x03\x04\x03\x22" "\x60\x86\x48\x01\x65\x03\x04\x03\x23" "\x60\x86\x48\x01\x65\x03\x04\x03\x24"
-    "\x60\x86\x48\x01\x65\x03\x04\x03\x25" "\x60\x86\x48\x01\x65\x03\x04\x03\x26" "\x60\x86\x48\x01\x65\x03\x04\x03\x27"
-    "\x60\x86\x48\x01\x65\x03\x04\x03\x28" "\x60\x86\x48\x01\x65\x03\x04\x03\x29" "\x60\x86\x48\x01\x65\x03\x04\x03\x2A"
-    "\x60\x86\x48\x01\x65\x03\x04\x03\x2B" "\x60\x86\x48\x01\x65\x03\x04\x03\x2C" "\x60\x86\x48\x01\x65\x03\x04\x03\x2D"
-    "\x60\x86\x48\x01\x65\x03\x04\x03\x2E" "\x60\x86\x48\x01\x65\x03\x04\x04\x01" "\x60\x86\x48\x01\x65\x03\x04\x04\x02"
-    "\x60\x86\x48\x01\x65\x03\x04\x04\x03" "\x60\x86\x48\x01\x86\xF8\x42" "\x60\x86\x48\x01\x86\xF8\x42\x01"
-    "\x60\x86\x48\x01\x86\xF8\x42\x01\x01" "\x60\x86\x48\x01\x86\xF8\x42\x01\x02" "\x60\x86\x48\x01\x86\xF8\x42\x01\x03"
-    "\x60\x86\x48\x01\x86\xF8\x42\x01\x04" "\x60\x86\x48\x01\x86\xF8\x42\x01\x07" "\x60\x86\x48\x01\x86\xF8\x42\x01\x08"
-    "\x60\x86\x48\x01\x86\xF8\x42\x01\x0C" "\x60\x86\x48\x01\x86\xF8\x42\x01\x0D" "\x60\x86\x48\x01\x86\xF8\x42\x02",
-    "\x60\x86\x48\x01\x86\xF8\x42\x02\x05" "\x60\x86\x48\x01\x86\xF8\x42\x03\x01\x05"
-    "\x60\x86\x48\x01\x86\xF8\x42\x03\x01\x06" "\x60\x86\x48\x01\x86\xF8\x42\x03\x01\x07"
-    "\x60\x86\x48\x01\x86\xF8\x42\x03\x01\x08" "\x60\x86\x48\x01\x86\xF8\x42\x03\x01\x09"
-    "\x60\x86\x48\x01\x86\xF8\x42\x03\x01\x0A" "\x60\x86\x48\x01\x86\xF8\x42\x03\x01\x0B"
-    "\x60\x86\x48\x01\x86\xF8\x42\x03\x01\x0D" "\x60\x86\x48\x01\x86\xF8\x42\x03\x01\x12"
-    "\x60\x86\x48\x01\x86\xF8\x42\x03\x01\x22" "\x60\x86\x48\x01\x86\xF8\x42\x03\x01\x23"
-    "\x60\x86\x48\x01\x86\xF8\x42\x03\x01\x2F" "\x60\x86\x48\x01\x86\xF8\x42\x03\x01\x4D"
-    "\x60\x86\x48\x01\x86\xF8\x42\x03\x01\x81\x46" "\x60\x86\x48\x01\x86\xF8\x42\x03\x01\x84\x1E"
-    "\x60\x86\x48\x01\x86\xF8\x42\x03\x02\x01" "\x60\x86\x48\x01\x86\xF8\x42\x03\x02\x21"
-    "\x60\x86\x48\x01\x86\xF8\x42\x03\x02\x81\x13" "\x60\x86\x48\x01\x86\xF8\x42\x03\x04\x02"
-    "\x60\x86\x48\x01\x86\xF8\x42\x03\x04\x03" "\x60\x86\x48\x01\x86\xF8\x42\x03\x04\x04"
-    "\x60\x86\x48\x01\x86\xF8\x42\x03\x04\x05" "\x60\x86\x48\x01\x86\xF8\x42\x03\x04\x07"
-    "\x60\x86\x48\x01\x86\xF8\x42\x03\x04\x09" "\x60\x86\x48\x01\x86\xF8\x42\x03\x04\x0A"
-    "\x60\x86\x48\x01\x86\xF8\x42\x03\x04\x0F" "\x60\x86\x48\x01\x86\xF8\x42\x03\x04\x10"
-    "\x60\x86\x48\x01\x86\xF8\x42\x03\x04\x12" "\x60\x86\x48\x01\x86\xF8\x42\x04\x01" "\x60\x86\x48\x01\x86\xF9\x66"
-    "\x60\x86\x48\x01\x86\xF9\x66\xAD\xCA\x7B\x01\x01" "\x67" "\x67\x2A" "\x67\x2A\x00" "\x67\x2A\x00\x00"
-    "\x67\x2A\x00\x01" "\x67\x2A\x00\x02" "\x67\x2A\x00\x03" "\x67\x2A\x00\x04" "\x67\x2A\x00\x05" "\x67\x2A\x00\x06"
-    "\x67\x2A\x00\x07" "\x67\x2A\x00\x08" "\x67\x2A\x00\x09" "\x67\x2A\x00\x0A" "\x67\x2A\x00\x0B" "\x67\x2A\x00\x0C"
-    "\x67\x2A\x00\x0D" "\x67\x2A\x00\x0E" "\x67\x2A\x00\x10" "\x67\x2A\x00\x11" "\x67\x2A\x00\x12" "\x67\x2A\x00\x13"
-    "\x67\x2A\x00\x14" "\x67\x2A\x00\x15" "\x67\x2A\x00\x16" "\x67\x2A\x00\x17" "\x67\x2A\x00\x18" "\x67\x2A\x00\x19"
-    "\x67\x2A\x00\x1A" "\x67\x2A\x00\x1B" "\x67\x2A\x00\x1C" "\x67\x2A\x00\x1D" "\x67\x2A\x00\x1E" "\x67\x2A\x00\x1F"
-    "\x67\x2A\x00\x20" "\x67\x2A\x00\x21" "\x67\x2A\x00\x22" "\x67\x2A\x00\x23" "\x67\x2A\x00\x24" "\x67\x2A\x00\x25"
-    "\x67\x2A\x00\x26" "\x67\x2A\x00\x27" "\x67\x2A\x00\x28" "\x67\x2A\x00\x29" "\x67\x2A\x00\x2A" "\x67\x2A\x00\x2B"
-    "\x67\x2A\x00\x2C" "\x67\x2A\x00\x2D", "\x67\x2A\x00\x2E" "\x67\x2A\x00\x2F" "\x67\x2A\x00\x30" "\x67\x2A\x00\x31"
-    "\x67\x2A\x00\x32" "\x67\x2A\x00\x33" "\x67\x2A\x00\x34" "\x67\x2A\x00\x35" "\x67\x2A\x00\x36" "\x67\x2A\x00\x37"
-    "\x67\x2A\x00\x38" "\x67\x2A\x00\x39" "\x67\x2A\x00\x3A" "\x67\x2A\x00\x3B" "\x67\x2A\x00\x3C" "\x67\x2A\x00\x3D"
-    "\x67\x2A\x00\x3E" "\x67\x2A\x00\x3F" "\x67\x2A\x00\x40" "\x67\x2A\x00\x41" "\x67\x2A\x00\x42" "\x67\x2A\x00\x43"
-    "\x67\x2A\x00\x44" "\x67\x2A\x00\x45" "\x67\x2A\x00\x46" "\x67\x2A\x00\x47" "\x67\x2A\x00\x48" "\x67\x2A\x00\x49"
-    "\x67\x2A\x00\x4A" "\x67\x2A\x00\x4B" "\x67\x2A\x00\x4C" "\x67\x2A\x00\x4D" "\x67\x2A\x00\x4E" "\x67\x2A\x00\x4F"
-    "\x67\x2A\x00\x50" "\x67\x2A\x00\x51" "\x67\x2A\x00\x52" "\x67\x2A\x01" "\x67\x2A\x01\x01" "\x67\x2A\x01\x03"
-    "\x67\x2A\x01\x04" "\x67\x2A\x01\x05" "\x67\x2A\x01\x07" "\x67\x2A\x01\x08" "\x67\x2A\x03" "\x67\x2A\x03\x00"
-    "\x67\x2A\x03\x00\x00" "\x67\x2A\x03\x00\x01" "\x67\x2A\x03\x01" "\x67\x2A\x03\x02" "\x67\x2A\x03\x02\x01"
-    "\x67\x2A\x03\x02\x02" "\x67\x2A\x03\x03" "\x67\x2A\x03\x03\x03" "\x67\x2A\x03\x03\x03\x01" "\x67\x2A\x03\x03\x04"
-    "\x67\x2A\x03\x03\x04\x01" "\x67\x2A\x03\x03\x04\x02" "\x67\x2A\x03\x03\x05" "\x67\x2A\x03\x03\x05\x01"
-    "\x67\x2A\x03\x03\x05\x02" "\x67\x2A\x05" "\x67\x2A\x05\x00" "\x67\x2A\x07" "\x67\x2A\x07\x00" "\x67\x2A\x07\x01"
-    "\x67\x2A\x07\x02" "\x67\x2A\x07\x03" "\x67\x2A\x07\x04" "\x67\x2A\x07\x05" "\x67\x2A\x07\x06" "\x67\x2A\x07\x07"
-    "\x67\x2A\x07\x08" "\x67\x2A\x07\x09" "\x67\x2A\x07\x0A" "\x67\x2A\x07\x0B" "\x67\x2A\x08" "\x67\x2A\x08\x01"
-    "\x67\x2A\x08\x04" "\x67\x2A\x08\x05" "\x67\x2A\x08\x1E" "\x67\x2A\x08\x22" "\x67\x2A\x08\x23"
-    "\x67\x2A\x08\xAE\x7B" "\x67\x2B" "\x67\x2B\x01" "\x67\x2B\x01\x04\x01" "\x67\x2B\x01\x04\x03"
+    "\x55\x08\x03\x65" "\x55\x0D\x13" "\x55\x0D\x2D" "\x55\x0D\x2E" "\x55\x12\x09" "\x55\x1D" "\x55\x1D\x01"
+    "\x55\x1D\x02" "\x55\x1D\x04" "\x55\x1D\x07" "\x55\x1D\x08" "\x55\x1D\x09" "\x55\x1D\x0A" "\x55\x1D\x0E"
+    "\x55\x1D\x0F" "\x55\x1D\x10" "\x55\x1D\x11" "\x55\x1D\x12" "\x55\x1D\x13" "\x55\x1D\x14" "\x55\x1D\x15"
+    "\x55\x1D\x17" "\x55\x1D\x18" "\x55\x1D\x1B" "\x55\x1D\x1C" "\x55\x1D\x1D" "\x55\x1D\x1E" "\x55\x1D\x1F"
+    "\x55\x1D\x20" "\x55\x1D\x20\x00" "\x55\x1D\x21" "\x55\x1D\x23" "\x55\x1D\x24" "\x55\x1D\x25" "\x55\x1D\x25\x00"
+    "\x55\x1D\x26" "\x55\x1D\x27" "\x55\x1D\x29" "\x55\x1D\x2A" "\x55\x1D\x2B" "\x55\x1D\x2E" "\x55\x1D\x30"
+    "\x55\x1D\x31" "\x55\x1D\x32" "\x55\x1D\x34" "\x55\x1D\x36" "\x55\x1D\x37" "\x55\x1D\x38" "\x55\x1D\x39"
+    "\x55\x1D\x3D" "\x55\x1D\x3E", "\x55\x1D\x3F" "\x55\x1D\x40" "\x55\x1D\x41" "\x55\x1D\x42" "\x55\x1D\x43"
+    "\x55\x1D\x44" "\x55\x1D\x45" "\x55\x1D\x46" "\x55\x1D\x47" "\x55\x1D\x48" "\x55\x1D\x49" "\x55\x1D\x4A"
+    "\x55\x1D\x4B" "\x60\x86\x48\x01\x65\x02\x01\x02\x4D" "\x60\x86\x48\x01\x65\x02\x01\x05\x44"
+    "\x60\x86\x48\x01\x65\x02\x01\x05\x45" "\x60\x86\x48\x01\x65\x03\x04" "\x60\x86\x48\x01\x65\x03\x04\x01\x01"
+    "\x60\x86\x48\x01\x65\x03\x04\x01\x02" "\x60\x86\x48\x01\x65\x03\x04\x01\x03" "\x60\x86\x48\x01\x65\x03\x04\x01\x04"
+    "\x60\x86\x48\x01\x65\x03\x04\x01\x05" "\x60\x86\x48\x01\x65\x03\x04\x01\x06" "\x60\x86\x48\x01\x65\x03\x04\x01\x07"
+    "\x60\x86\x48\x01\x65\x03\x04\x01\x08" "\x60\x86\x48\x01\x65\x03\x04\x01\x15" "\x60\x86\x48\x01\x65\x03\x04\x01\x16"
+    "\x60\x86\x48\x01\x65\x03\x04\x01\x17" "\x60\x86\x48\x01\x65\x03\x04\x01\x18" "\x60\x86\x48\x01\x65\x03\x04\x01\x19"
+    "\x60\x86\x48\x01\x65\x03\x04\x01\x1A" "\x60\x86\x48\x01\x65\x03\x04\x01\x1B" "\x60\x86\x48\x01\x65\x03\x04\x01\x1C"
+    "\x60\x86\x48\x01\x65\x03\x04\x01\x29" "\x60\x86\x48\x01\x65\x03\x04\x01\x2A" "\x60\x86\x48\x01\x65\x03\x04\x01\x2B"
+    "\x60\x86\x48\x01\x65\x03\x04\x01\x2C" "\x60\x86\x48\x01\x65\x03\x04\x01\x2D" "\x60\x86\x48\x01\x65\x03\x04\x01\x2E"
+    "\x60\x86\x48\x01\x65\x03\x04\x01\x2F" "\x60\x86\x48\x01\x65\x03\x04\x01\x30" "\x60\x86\x48\x01\x65\x03\x04\x02\x01"
+    "\x60\x86\x48\x01\x65\x03\x04\x02\x02" "\x60\x86\x48\x01\x65\x03\x04\x02\x03" "\x60\x86\x48\x01\x65\x03\x04\x02\x04"
+    "\x60\x86\x48\x01\x65\x03\x04\x02\x05" "\x60\x86\x48\x01\x65\x03\x04\x02\x06" "\x60\x86\x48\x01\x65\x03\x04\x02\x07"
+    "\x60\x86\x48\x01\x65\x03\x04\x02\x08" "\x60\x86\x48\x01\x65\x03\x04\x02\x09" "\x60\x86\x48\x01\x65\x03\x04\x02\x0A"
+    "\x60\x86\x48\x01\x65\x03\x04\x02\x0B" "\x60\x86\x48\x01\x65\x03\x04\x02\x0C" "\x60\x86\x48\x01\x65\x03\x04\x02\x0D"
+    "\x60\x86\x48\x01\x65\x03\x04\x02\x0E" "\x60\x86\x48\x01\x65\x03\x04\x02\x0F" "\x60\x86\x48\x01\x65\x03\x04\x02\x10"
+    "\x60\x86\x48\x01\x65\x03\x04\x02\x11" "\x60\x86\x48\x01\x65\x03\x04\x02\x12" "\x60\x86\x48\x01\x65\x03\x04\x02\x13"
+    "\x60\x86\x48\x01\x65\x03\x04\x02\x14" "\x60\x86\x48\x01\x65\x03\x04\x03\x01" "\x60\x86\x48\x01\x65\x03\x04\x03\x02"
+    "\x60\x86\x48\x01\x65\x03\x04\x03\x03" "\x60\x86\x48\x01\x65\x03\x04\x03\x04",
+    "\x60\x86\x48\x01\x65\x03\x04\x03\x05" "\x60\x86\x48\x01\x65\x03\x04\x03\x06" "\x60\x86\x48\x01\x65\x03\x04\x03\x07"
+    "\x60\x86\x48\x01\x65\x03\x04\x03\x08" "\x60\x86\x48\x01\x65\x03\x04\x03\x09" "\x60\x86\x48\x01\x65\x03\x04\x03\x0A"
+    "\x60\x86\x48\x01\x65\x03\x04\x03\x0B" "\x60\x86\x48\x01\x65\x03\x04\x03\x0C" "\x60\x86\x48\x01\x65\x03\x04\x03\x0D"
+    "\x60\x86\x48\x01\x65\x03\x04\x03\x0E" "\x60\x86\x48\x01\x65\x03\x04\x03\x0F" "\x60\x86\x48\x01\x65\x03\x04\x03\x10"
+    "\x60\x86\x48\x01\x65\x03\x04\x03\x11" "\x60\x86\x48\x01\x65\x03\x04\x03\x12" "\x60\x86\x48\x01\x65\x03\x04\x03\x13"
+    "\x60\x86\x48\x01\x65\x03\x04\x03\x14" "\x60\x86\x48\x01\x65\x03\x04\x03\x15" "\x60\x86\x48\x01\x65\x03\x04\x03\x16"
+    "\x60\x86\x48\x01\x65\x03\x04\x03\x17" "\x60\x86\x48\x01\x65\x03\x04\x03\x18" "\x60\x86\x48\x01\x65\x03\x04\x03\x19"
+    "\x60\x86\x48\x01\x65\x03\x04\x03\x1A" "\x60\x86\x48\x01\x65\x03\x04\x03\x1B" "\x60\x86\x48\x01\x65\x03\x04\x03\x1C"
+    "\x60\x86\x48\x01\x65\x03\x04\x03\x1D" "\x60\x86\x48\x01\x65\x03\x04\x03\x1E" "\x60\x86\x48\x01\x65\x03\x04\x03\x1F"
+    "\x60\x86\x48\x01\x65\x03\x04\x03\x20" "\x60\x86\x48\x01\x65\x03\x04\x03\x21" "\x60\x86\x48\x01\x65\x03\x04\x03\x22"
+    "\x60\x86\x48\x01\x65\x03\x04\x03\x23" "\x60\x86\x48\x01\x65\x03\x04\x03\x24" "\x60\x86\x48\x01\x65\x03\x04\x03\x25"
+    "\x60\x86\x48\x01\x65\x03\x04\x03\x26" "\x60\x86\x48\x01\x65\x03\x04\x03\x27" "\x60\x86\x48\x01\x65\x03\x04\x03\x28"
+    "\x60\x86\x48\x01\x65\x03\x04\x03\x29" "\x60\x86\x48\x01\x65\x03\x04\x03\x2A" "\x60\x86\x48\x01\x65\x03\x04\x03\x2B"
+    "\x60\x86\x48\x01\x65\x03\x04\x03\x2C" "\x60\x86\x48\x01\x65\x03\x04\x03\x2D" "\x60\x86\x48\x01\x65\x03\x04\x03\x2E"
+    "\x60\x86\x48\x01\x65\x03\x04\x04\x01" "\x60\x86\x48\x01\x65\x03\x04\x04\x02" "\x60\x86\x48\x01\x65\x03\x04\x04\x03"
+    "\x60\x86\x48\x01\x65\x03\x06\x07" "\x60\x86\x48\x01\x65\x03\x06\x08" "\x60\x86\x48\x01\x65\x03\x08\x07"
+    "\x60\x86\x48\x01\x86\xF8\x37\x01\x82\x2D\x04\x01\x01" "\x60\x86\x48\x01\x86\xF8\x37\x01\x82\x2D\x04\x03\x01"
+    "\x60\x86\x48\x01\x86\xF8\x37\x01\x82\x2D\x04\x05\x01" "\x60\x86\x48\x01\x86\xF8\x37\x01\x82\x2D\x04\x06\x01"
+    "\x60\x86\x48\x01\x86\xF8\x37\x01\x82\x2D\x04\x08\x01" "\x60\x86\x48\x01\x86\xF8\x37\x01\x82\x2D\x04\x09\x01",
+    "\x60\x86\x48\x01\x86\xF8\x37\x01\x82\x2D\x04\x0A\x01" "\x60\x86\x48\x01\x86\xF8\x37\x01\x82\x2D\x04\x0E\x01"
+    "\x60\x86\x48\x01\x86\xF8\x37\x01\x82\x2D\x04\x0F\x01" "\x60\x86\x48\x01\x86\xF8\x37\x01\x82\x2D\x04\x11\x01"
+    "\x60\x86\x48\x01\x86\xF8\x37\x01\x82\x2D\x04\x12\x01" "\x60\x86\x48\x01\x86\xF8\x37\x01\x82\x2D\x04\x18\x01"
+    "\x60\x86\x48\x01\x86\xF8\x37\x01\x82\x2D\x04\x19\x01" "\x60\x86\x48\x01\x86\xF8\x37\x01\x82\x2D\x04\x1A\x01"
+    "\x60\x86\x48\x01\x86\xF8\x37\x01\x82\x2D\x04\x1C\x01" "\x60\x86\x48\x01\x86\xF8\x37\x01\x82\x2D\x04\x1D\x01"
+    "\x60\x86\x48\x01\x86\xF8\x37\x01\x82\x2D\x04\x1E\x01" "\x60\x86\x48\x01\x86\xF8\x37\x01\x82\x2D\x04\x1F\x01"
+    "\x60\x86\x48\x01\x86\xF8\x37\x01\x82\x2D\x04\x20\x01" "\x60\x86\x48\x01\x86\xF8\x37\x01\x82\x2D\x04\x21\x01"
+    "\x60\x86\x48\x01\x86\xF8\x37\x01\x82\x2D\x04\x22\x01" "\x60\x86\x48\x01\x86\xF8\x37\x01\x82\x2D\x04\x24\x01"
+    "\x60\x86\x48\x01\x86\xF8\x37\x01\x82\x2D\x04\x25\x01" "\x60\x86\x48\x01\x86\xF8\x37\x01\x82\x2D\x04\x27\x01"
+    "\x60\x86\x48\x01\x86\xF8\x37\x01\x82\x2D\x04\x28\x01" "\x60\x86\x48\x01\x86\xF8\x37\x01\x82\x2D\x04\x29\x01"
+    "\x60\x86\x48\x01\x86\xF8\x37\x01\x82\x2D\x04\x2A\x01" "\x60\x86\x48\x01\x86\xF8\x37\x01\x82\x2D\x04\x2B\x01"
+    "\x60\x86\x48\x01\x86\xF8\x37\x01\x82\x2D\x04\x2C\x01" "\x60\x86\x48\x01\x86\xF8\x37\x01\x82\x2D\x04\x2D\x01"
+    "\x60\x86\x48\x01\x86\xF8\x37\x01\x82\x2D\x04\x2E\x01" "\x60\x86\x48\x01\x86\xF8\x37\x01\x82\x2D\x04\x2F\x01"
+    "\x60\x86\x48\x01\x86\xF8\x37\x01\x82\x2D\x04\x30\x01" "\x60\x86\x48\x01\x86\xF8\x37\x01\x82\x2D\x04\x31\x01"
+    "\x60\x86\x48\x01\x86\xF8\x37\x01\x82\x2D\x04\x32\x01" "\x60\x86\x48\x01\x86\xF8\x37\x01\x82\x2D\x04\x33\x01"
+    "\x60\x86\x48\x01\x86\xF8\x37\x01\x82\x2D\x04\x34\x01" "\x60\x86\x48\x01\x86\xF8\x37\x01\x82\x2D\x04\x35\x01"
+    "\x60\x86\x48\x01\x86\xF8\x37\x01\x82\x2D\x06\x01\x01" "\x60\x86\x48\x01\x86\xF8\x37\x01\x82\x2D\x06\x02\x01"
+    "\x60\x86\x48\x01\x86\xF8\x37\x01\x82\x2D\x06\x03\x01" "\x60\x86\x48\x01\x86\xF8\x37\x01\x82\x2D\x06\x04\x01"
+    "\x60\x86\x48\x01\x86\xF8\x37\x01\x82\x2D\x06\x05\x01" "\x60\x86\x48\x01\x86\xF8\x37\x01\x82\x2D\x06\x08\x01"
+    "\x60\x86\x48\x01\x86\xF8\x37\x01\x82\x2D\x06\x09\x01", "\x60\x86\x48\x01\x86\xF8\x37\x01\x82\x2D\x06\x0B\x01"
+    "\x60\x86\x48\x01\x86\xF8\x37\x01\x82\x2D\x06\x0D\x01" "\x60\x86\x48\x01\x86\xF8\x37\x01\x82\x2D\x06\x0E\x01"
+    "\x60\x86\x48\x01\x86\xF8\x37\x01\x82\x2D\x06\x10\x01" "\x60\x86\x48\x01\x86\xF8\x37\x01\x82\x2D\x06\x11\x01"
+    "\x60\x86\x48\x01\x86\xF8\x42" "\x60\x86\x48\x01\x86\xF8\x42\x01" "\x60\x86\x48\x01\x86\xF8\x42\x01\x01"
+    "\x60\x86\x48\x01\x86\xF8\x42\x01\x02" "\x60\x86\x48\x01\x86\xF8\x42\x01\x03" "\x60\x86\x48\x01\x86\xF8\x42\x01\x04"
+    "\x60\x86\x48\x01\x86\xF8\x42\x01\x07" "\x60\x86\x48\x01\x86\xF8\x42\x01\x08" "\x60\x86\x48\x01\x86\xF8\x42\x01\x0C"
+    "\x60\x86\x48\x01\x86\xF8\x42\x01\x0D" "\x60\x86\x48\x01\x86\xF8\x42\x02" "\x60\x86\x48\x01\x86\xF8\x42\x02\x05"
+    "\x60\x86\x48\x01\x86\xF8\x42\x03\x01\x05" "\x60\x86\x48\x01\x86\xF8\x42\x03\x01\x06"
+    "\x60\x86\x48\x01\x86\xF8\x42\x03\x01\x07" "\x60\x86\x48\x01\x86\xF8\x42\x03\x01\x08"
+    "\x60\x86\x48\x01\x86\xF8\x42\x03\x01\x09" "\x60\x86\x48\x01\x86\xF8\x42\x03\x01\x0A"
+    "\x60\x86\x48\x01\x86\xF8\x42\x03\x01\x0B" "\x60\x86\x48\x01\x86\xF8\x42\x03\x01\x0D"
+    "\x60\x86\x48\x01\x86\xF8\x42\x03\x01\x12" "\x60\x86\x48\x01\x86\xF8\x42\x03\x01\x22"
+    "\x60\x86\x48\x01\x86\xF8\x42\x03\x01\x23" "\x60\x86\x48\x01\x86\xF8\x42\x03\x01\x2F"
+    "\x60\x86\x48\x01\x86\xF8\x42\x03\x01\x4D" "\x60\x86\x48\x01\x86\xF8\x42\x03\x01\x81\x46"
+    "\x60\x86\x48\x01\x86\xF8\x42\x03\x01\x84\x1E" "\x60\x86\x48\x01\x86\xF8\x42\x03\x02\x01"
+    "\x60\x86\x48\x01\x86\xF8\x42\x03\x02\x21" "\x60\x86\x48\x01\x86\xF8\x42\x03\x02\x81\x13"
+    "\x60\x86\x48\x01\x86\xF8\x42\x03\x04\x02" "\x60\x86\x48\x01\x86\xF8\x42\x03\x04\x03"
+    "\x60\x86\x48\x01\x86\xF8\x42\x03\x04\x04" "\x60\x86\x48\x01\x86\xF8\x42\x03\x04\x05"
+    "\x60\x86\x48\x01\x86\xF8\x42\x03\x04\x07" "\x60\x86\x48\x01\x86\xF8\x42\x03\x04\x09"
+    "\x60\x86\x48\x01\x86\xF8\x42\x03\x04\x0A" "\x60\x86\x48\x01\x86\xF8\x42\x03\x04\x0F"
+    "\x60\x86\x48\x01\x86\xF8\x42\x03\x04\x10" "\x60\x86\x48\x01\x86\xF8\x42\x03\x04\x12"
+    "\x60\x86\x48\x01\x86\xF8\x42\x03\x08\x0F\x02\x01" "\x60\x86\x48\x01\x86\xF8\x42\x04\x01"
+    "\x60\x86\x48\x01\x86\xF9\x66" "\x60\x86\x48\x01\x86\xF9\x66\xAD\xCA\x7B\x01\x01" "\x67" "\x67\x2A" "\x67\x2A\x00"
+    "\x67\x2A\x00\x00" "\x67\x2A\x00\x01", "\x67\x2A\x00\x02" "\x67\x2A\x00\x03" "\x67\x2A\x00\x04" "\x67\x2A\x00\x05"
+    "\x67\x2A\x00\x06" "\x67\x2A\x00\x07" "\x67\x2A\x00\x08" "\x67\x2A\x00\x09" "\x67\x2A\x00\x0A" "\x67\x2A\x00\x0B"
+    "\x67\x2A\x00\x0C" "\x67\x2A\x00\x0D" "\x67\x2A\x00\x0E" "\x67\x2A\x00\x10" "\x67\x2A\x00\x11" "\x67\x2A\x00\x12"
+    "\x67\x2A\x00\x13" "\x67\x2A\x00\x14" "\x67\x2A\x00\x15" "\x67\x2A\x00\x16" "\x67\x2A\x00\x17" "\x67\x2A\x00\x18"
+    "\x67\x2A\x00\x19" "\x67\x2A\x00\x1A" "\x67\x2A\x00\x1B" "\x67\x2A\x00\x1C" "\x67\x2A\x00\x1D" "\x67\x2A\x00\x1E"
+    "\x67\x2A\x00\x1F" "\x67\x2A\x00\x20" "\x67\x2A\x00\x21" "\x67\x2A\x00\x22" "\x67\x2A\x00\x23" "\x67\x2A\x00\x24"
+    "\x67\x2A\x00\x25" "\x67\x2A\x00\x26" "\x67\x2A\x00\x27" "\x67\x2A\x00\x28" "\x67\x2A\x00\x29" "\x67\x2A\x00\x2A"
+    "\x67\x2A\x00\x2B" "\x67\x2A\x00\x2C" "\x67\x2A\x00\x2D" "\x67\x2A\x00\x2E" "\x67\x2A\x00\x2F" "\x67\x2A\x00\x30"
+    "\x67\x2A\x00\x31" "\x67\x2A\x00\x32" "\x67\x2A\x00\x33" "\x67\x2A\x00\x34" "\x67\x2A\x00\x35" "\x67\x2A\x00\x36"
+    "\x67\x2A\x00\x37" "\x67\x2A\x00\x38" "\x67\x2A\x00\x39" "\x67\x2A\x00\x3A" "\x67\x2A\x00\x3B" "\x67\x2A\x00\x3C"
+    "\x67\x2A\x00\x3D" "\x67\x2A\x00\x3E" "\x67\x2A\x00\x3F" "\x67\x2A\x00\x40" "\x67\x2A\x00\x41" "\x67\x2A\x00\x42"
+    "\x67\x2A\x00\x43" "\x67\x2A\x00\x44" "\x67\x2A\x00\x45" "\x67\x2A\x00\x46" "\x67\x2A\x00\x47" "\x67\x2A\x00\x48"
+    "\x67\x2A\x00\x49" "\x67\x2A\x00\x4A" "\x67\x2A\x00\x4B" "\x67\x2A\x00\x4C" "\x67\x2A\x00\x4D" "\x67\x2A\x00\x4E"
+    "\x67\x2A\x00\x4F" "\x67\x2A\x00\x50" "\x67\x2A\x00\x51" "\x67\x2A\x00\x52" "\x67\x2A\x01" "\x67\x2A\x01\x01"
+    "\x67\x2A\x01\x03" "\x67\x2A\x01\x04" "\x67\x2A\x01\x05" "\x67\x2A\x01\x07" "\x67\x2A\x01\x08" "\x67\x2A\x03"
+    "\x67\x2A\x03\x00" "\x67\x2A\x03\x00\x00" "\x67\x2A\x03\x00\x01" "\x67\x2A\x03\x01" "\x67\x2A\x03\x02"
+    "\x67\x2A\x03\x02\x01" "\x67\x2A\x03\x02\x02" "\x67\x2A\x03\x03" "\x67\x2A\x03\x03\x03" "\x67\x2A\x03\x03\x03\x01"
+    "\x67\x2A\x03\x03\x04" "\x67\x2A\x03\x03\x04\x01" "\x67\x2A\x03\x03\x04\x02" "\x67\x2A\x03\x03\x05"
+    "\x67\x2A\x03\x03\x05\x01" "\x67\x2A\x03\x03\x05\x02" "\x67\x2A\x05" "\x67\x2A\x05\x00" "\x67\x2A\x07"
+    "\x67\x2A\x07\x00" "\x67\x2A\x07\x01" "\x67\x2A\x07\x02" "\x67\x2A\x07\x03" "\x67\x2A\x07\x04" "\x67\x2A\x07\x05"
+    "\x67\x2A\x07\x06" "\x67\x2A\x07\x07" "\x67\x2A\x07\x08" "\x67\x2A\x07\x09" "\x67\x2A\x07\x0A" "\x67\x2A\x07\x0B"
+    "\x67\x2A\x08" "\x67\x2A\x08\x01" "\x67\x2A\x08\x04" "\x67\x2A\x08\x05" "\x67\x2A\x08\x1E", "\x67\x2A\x08\x22"
+    "\x67\x2A\x08\x23" "\x67\x2A\x08\xAE\x7B" "\x67\x2B" "\x67\x2B\x01" "\x67\x2B\x01\x04\x01" "\x67\x2B\x01\x04\x03"
     "\x67\x2B\x01\x04\x04" "\x67\x2B\x01\x04\x05" "\x67\x2B\x01\x04\x06" "\x67\x2B\x01\x04\x07" "\x67\x2B\x01\x04\x08"
     "\x67\x2B\x01\x04\x09" "\x67\x2B\x01\x04\x0A" "\x67\x2B\x01\x04\x0B" "\x67\x2B\x01\x04\x0C" "\x67\x81\x05"
-    "\x67\x81\x05\x02" "\x67\x81\x05\x02\x01" "\x67\x81\x05\x02\x02" "\x67\x81\x05\x02\x03" "\x67\x81\x05\x02\x0A"
-    "\x67\x81\x05\x02\x0B" "\x67\x81\x05\x02\x0C" "\x67\x81\x05\x02\x0D" "\x67\x81\x05\x02\x0E" "\x67\x81\x05\x02\x0F"
-    "\x67\x81\x05\x02\x10" "\x67\x81\x05\x02\x11" "\x67\x81\x05\x02\x12" "\x67\x81\x05\x02\x13" "\x67\x81\x05\x02\x17"
-    "\x67\x81\x05\x02\x19" "\x67\x81\x05\x02\x1A" "\x67\x81\x05\x02\x1B" "\x67\x81\x05\x02\x1C", "\x67\x81\x05\x03"
-    "\x67\x81\x05\x03\x01" "\x67\x81\x05\x04" "\x67\x81\x05\x04\x01" "\x67\x81\x05\x05" "\x67\x81\x05\x05\x01"
-    "\x67\x81\x05\x05\x01\x01" "\x67\x81\x05\x05\x01\x02" "\x67\x81\x05\x05\x01\x03" "\x67\x81\x05\x05\x01\x04"
-    "\x67\x81\x05\x05\x01\x05" "\x67\x81\x05\x05\x01\x06" "\x67\x81\x05\x05\x01\x07" "\x67\x81\x05\x05\x01\x07\x01"
-    "\x67\x81\x05\x05\x01\x07\x02" "\x67\x81\x05\x05\x01\x07\x03" "\x67\x81\x05\x05\x01\x07\x04"
-    "\x67\x81\x05\x05\x01\x08" "\x67\x81\x05\x06" "\x67\x81\x05\x06\x02" "\x67\x81\x05\x06\x03" "\x67\x81\x05\x06\x04"
-    "\x67\x81\x05\x06\x05" "\x67\x81\x05\x06\x06" "\x67\x81\x05\x06\x07" "\x67\x81\x05\x08" "\x67\x81\x05\x08\x01"
-    "\x67\x81\x05\x08\x02" "\x67\x81\x05\x08\x03" "\x67\x81\x05\x08\x04" "\x67\x81\x05\x08\x05" "\x67\x81\x05\x08\x06"
-    "\x67\x81\x05\x08\x07" "\x67\x81\x05\x08\x08" "\x67\x81\x05\x0B" "\x67\x81\x05\x0B\x04" "\x67\x81\x05\x11"
-    "\x67\x81\x05\x11\x01" "\x67\x81\x05\x11\x02" "\x67\x81\x05\x11\x03" "\x67\x81\x05\x12" "\x67\x81\x05\x12\x03"
-    "\x67\x81\x05\x12\x03\x01" "\x67\x81\x05\x12\x03\x02" "\x67\x81\x05\x12\x03\x03" "\x67\x81\x05\x12\x03\x04"
-    "\x67\x81\x05\x12\x03\x05" "\x67\x81\x05\x13" "\x67\x81\x05\x13\x01" "\x67\x81\x05\x13\x01\x01"
-    "\x67\x81\x05\x13\x01\x02" "\x67\x81\x05\x13\x01\x03" "\x67\x81\x05\x13\x01\x04" "\x67\x81\x05\x13\x01\x05"
-    "\x67\x81\x05\x13\x01\x06" "\x67\x81\x05\x13\x01\x07" "\x67\x81\x05\x13\x01\x08" "\x67\x81\x05\x13\x01\x09"
-    "\x67\x81\x05\x13\x01\x0A" "\x67\x81\x05\x13\x01\x0B" "\x67\x81\x05\x13\x01\x0C" "\x67\x81\x05\x13\x01\x0D"
-    "\x67\x81\x05\x13\x01\x0E" "\x67\x81\x05\x13\x01\x0F" "\x67\x81\x05\x13\x01\x10" "\x67\x81\x05\x13\x01\x11"
-    "\x67\x81\x05\x13\x01\x12" "\x67\x81\x05\x13\x01\x13" "\x67\x81\x05\x13\x01\x14" "\x67\x81\x05\x13\x01\x15"
-    "\x67\x81\x05\x13\x02" "\x67\x81\x05\x13\x02\x01" "\x67\x81\x05\x13\x02\x02" "\x67\x81\x05\x13\x02\x03"
-    "\x67\x81\x05\x13\x02\x04" "\x67\x81\x05\x13\x02\x05" "\x67\x81\x05\x13\x02\x06" "\x67\x81\x05\x13\x02\x07"
-    "\x67\x81\x05\x13\x02\x08" "\x67\x81\x05\x13\x02\x09" "\x67\x81\x05\x13\x02\x0A" "\x67\x81\x05\x13\x02\x0B"
-    "\x67\x81\x05\x13\x02\x0C" "\x67\x81\x05\x13\x02\x0D" "\x67\x81\x05\x13\x02\x0E" "\x67\x81\x05\x13\x02\x0F"
-    "\x67\x81\x05\x13\x02\x10" "\x67\x81\x05\x13\x02\x11" "\x67\x81\x05\x13\x02\x12" "\x67\x81\x05\x13\x02\x13"
-    "\x67\x81\x05\x13\x02\x14", "\x67\x81\x05\x13\x02\x15" "\x67\x81\x05\x13\x02\x16" "\x67\x81\x05\x13\x02\x17"
-    "\x67\x81\x05\x13\x02\x18" "\x67\x81\x05\x13\x02\x19" "\x67\x81\x05\x13\x02\x1A" "\x67\x81\x05\x13\x02\x1B"
-    "\x67\x81\x05\x13\x02\x1C" "\x67\x81\x05\x13\x02\x1D" "\x67\x81\x05\x13\x02\x1E" "\x67\x81\x05\x13\x02\x1F"
-    "\x67\x81\x05\x13\x02\x20" "\x67\x81\x05\x13\x02\x21" "\x67\x81\x05\x13\x02\x22" "\x67\x81\x05\x13\x02\x23"
-    "\x67\x81\x05\x13\x02\x24" "\x67\x81\x05\x13\x02\x25" "\x67\x81\x05\x13\x03" "\x67\x81\x0C" "\x67\x81\x0C\x01"
-    "\x67\x81\x0C\x01\x01" "\x67\x81\x0C\x01\x02" "\x67\x81\x0C\x01\x02\x01" "\x67\x81\x0C\x01\x02\x02"
-    "\x67\x81\x0C\x01\x02\x03" "\x67\x81\x0C\x01\x03" "\x67\x81\x0C\x01\x04" "\x67\x81\x0C\x01\x04\x01"
-    "\x67\x81\x0C\x01\x05" "\x67\x81\x0C\x01\x05\x01" "\x67\x81\x0C\x01\x05\x02" "\x67\x81\x0C\x01\x05\x03"
-    "\x67\x81\x0C\x01\x05\x04" "\x67\x81\x0C\x01\x1F" "\x67\x81\x0C\x02\x01" "\x67\x81\x0C\x03" "\x67\x81\x0C\x03\x01"
-    "\x67\x81\x0C\x29" "\x67\x81\x0C\x2A" ""
+    "\x67\x81\x05\x02" "\x67\x81\x05\x02\x01" "\x67\x81\x05\x02\x02" "\x67\x81\x05\x02\x03" "\x67\x81\x05\x02\x04"
+    "\x67\x81\x05\x02\x05" "\x67\x81\x05\x02\x06" "\x67\x81\x05\x02\x0A" "\x67\x81\x05\x02\x0B" "\x67\x81\x05\x02\x0C"
+    "\x67\x81\x05\x02\x0D" "\x67\x81\x05\x02\x0E" "\x67\x81\x05\x02\x0F" "\x67\x81\x05\x02\x10" "\x67\x81\x05\x02\x11"
+    "\x67\x81\x05\x02\x12" "\x67\x81\x05\x02\x13" "\x67\x81\x05\x02\x17" "\x67\x81\x05\x02\x19" "\x67\x81\x05\x02\x1A"
+    "\x67\x81\x05\x02\x1B" "\x67\x81\x05\x02\x1C" "\x67\x81\x05\x03" "\x67\x81\x05\x03\x01" "\x67\x81\x05\x04"
+    "\x67\x81\x05\x04\x01" "\x67\x81\x05\x05" "\x67\x81\x05\x05\x01" "\x67\x81\x05\x05\x01\x01"
+    "\x67\x81\x05\x05\x01\x02" "\x67\x81\x05\x05\x01\x03" "\x67\x81\x05\x05\x01\x04" "\x67\x81\x05\x05\x01\x05"
+    "\x67\x81\x05\x05\x01\x06" "\x67\x81\x05\x05\x01\x07" "\x67\x81\x05\x05\x01\x07\x01" "\x67\x81\x05\x05\x01\x07\x02"
+    "\x67\x81\x05\x05\x01\x07\x03" "\x67\x81\x05\x05\x01\x07\x04" "\x67\x81\x05\x05\x01\x08" "\x67\x81\x05\x06"
+    "\x67\x81\x05\x06\x02" "\x67\x81\x05\x06\x03" "\x67\x81\x05\x06\x04" "\x67\x81\x05\x06\x05" "\x67\x81\x05\x06\x06"
+    "\x67\x81\x05\x06\x07" "\x67\x81\x05\x08" "\x67\x81\x05\x08\x01" "\x67\x81\x05\x08\x02" "\x67\x81\x05\x08\x03"
+    "\x67\x81\x05\x08\x04" "\x67\x81\x05\x08\x05" "\x67\x81\x05\x08\x06" "\x67\x81\x05\x08\x07" "\x67\x81\x05\x08\x08"
+    "\x67\x81\x05\x0B" "\x67\x81\x05\x0B\x04" "\x67\x81\x05\x11" "\x67\x81\x05\x11\x01" "\x67\x81\x05\x11\x02"
+    "\x67\x81\x05\x11\x03" "\x67\x81\x05\x12" "\x67\x81\x05\x12\x03" "\x67\x81\x05\x12\x03\x01"
+    "\x67\x81\x05\x12\x03\x02" "\x67\x81\x05\x12\x03\x03" "\x67\x81\x05\x12\x03\x04" "\x67\x81\x05\x12\x03\x05"
+    "\x67\x81\x05\x13" "\x67\x81\x05\x13\x01" "\x67\x81\x05\x13\x01\x01" "\x67\x81\x05\x13\x01\x02"
+    "\x67\x81\x05\x13\x01\x03" "\x67\x81\x05\x13\x01\x04" "\x67\x81\x05\x13\x01\x05" "\x67\x81\x05\x13\x01\x06"
+    "\x67\x81\x05\x13\x01\x07" "\x67\x81\x05\x13\x01\x08" "\x67\x81\x05\x13\x01\x09" "\x67\x81\x05\x13\x01\x0A"
+    "\x67\x81\x05\x13\x01\x0B", "\x67\x81\x05\x13\x01\x0C" "\x67\x81\x05\x13\x01\x0D" "\x67\x81\x05\x13\x01\x0E"
+    "\x67\x81\x05\x13\x01\x0F" "\x67\x81\x05\x13\x01\x10" "\x67\x81\x05\x13\x01\x11" "\x67\x81\x05\x13\x01\x12"
+    "\x67\x81\x05\x13\x01\x13" "\x67\x81\x05\x13\x01\x14" "\x67\x81\x05\x13\x01\x15" "\x67\x81\x05\x13\x02"
+    "\x67\x81\x05\x13\x02\x01" "\x67\x81\x05\x13\x02\x02" "\x67\x81\x05\x13\x02\x03" "\x67\x81\x05\x13\x02\x04"
+    "\x67\x81\x05\x13\x02\x05" "\x67\x81\x05\x13\x02\x06" "\x67\x81\x05\x13\x02\x07" "\x67\x81\x05\x13\x02\x08"
+    "\x67\x81\x05\x13\x02\x09" "\x67\x81\x05\x13\x02\x0A" "\x67\x81\x05\x13\x02\x0B" "\x67\x81\x05\x13\x02\x0C"
+    "\x67\x81\x05\x13\x02\x0D" "\x67\x81\x05\x13\x02\x0E" "\x67\x81\x05\x13\x02\x0F" "\x67\x81\x05\x13\x02\x10"
+    "\x67\x81\x05\x13\x02\x11" "\x67\x81\x05\x13\x02\x12" "\x67\x81\x05\x13\x02\x13" "\x67\x81\x05\x13\x02\x14"
+    "\x67\x81\x05\x13\x02\x15" "\x67\x81\x05\x13\x02\x16" "\x67\x81\x05\x13\x02\x17" "\x67\x81\x05\x13\x02\x18"
+    "\x67\x81\x05\x13\x02\x19" "\x67\x81\x05\x13\x02\x1A" "\x67\x81\x05\x13\x02\x1B" "\x67\x81\x05\x13\x02\x1C"
+    "\x67\x81\x05\x13\x02\x1D" "\x67\x81\x05\x13\x02\x1E" "\x67\x81\x05\x13\x02\x1F" "\x67\x81\x05\x13\x02\x20"
+    "\x67\x81\x05\x13\x02\x21" "\x67\x81\x05\x13\x02\x22" "\x67\x81\x05\x13\x02\x23" "\x67\x81\x05\x13\x02\x24"
+    "\x67\x81\x05\x13\x02\x25" "\x67\x81\x05\x13\x03" "\x67\x81\x0C" "\x67\x81\x0C\x01" "\x67\x81\x0C\x01\x01"
+    "\x67\x81\x0C\x01\x02" "\x67\x81\x0C\x01\x02\x01" "\x67\x81\x0C\x01\x02\x02" "\x67\x81\x0C\x01\x02\x03"
+    "\x67\x81\x0C\x01\x03" "\x67\x81\x0C\x01\x04" "\x67\x81\x0C\x01\x04\x01" "\x67\x81\x0C\x01\x05"
+    "\x67\x81\x0C\x01\x05\x01" "\x67\x81\x0C\x01\x05\x02" "\x67\x81\x0C\x01\x05\x03" "\x67\x81\x0C\x01\x05\x04"
+    "\x67\x81\x0C\x01\x1F" "\x67\x81\x0C\x02\x01" "\x67\x81\x0C\x03" "\x67\x81\x0C\x03\x01" "\x67\x81\x0C\x29"
+    "\x67\x81\x0C\x2A" ""
 };
 
 CONST_OID_TABLE const char const_oid_common_texts[][512] = {
-    "zeroDotZero\0" "CAMELLIA-128-ECB\0" "camellia-128-ecb\0" "CAMELLIA-128-OFB\0" "camellia-128-ofb\0"
-    "CAMELLIA-128-CFB\0" "camellia-128-cfb\0" "CAMELLIA-128-GCM\0" "camellia-128-gcm\0" "CAMELLIA-128-CCM\0"
-    "camellia-128-ccm\0" "CAMELLIA-128-CTR\0" "camellia-128-ctr\0" "CAMELLIA-128-CMAC\0" "camellia-128-cmac\0"
-    "CAMELLIA-192-ECB\0" "camellia-192-ecb\0" "CAMELLIA-192-OFB\0" "camellia-192-ofb\0" "CAMELLIA-192-CFB\0"
-    "camellia-192-cfb\0" "CAMELLIA-192-GCM\0" "camellia-192-gcm\0" "CAMELLIA-192-CCM\0" "camellia-192-ccm\0"
-    "CAMELLIA-192-CTR\0" "camellia-192-ctr\0" "CAMELLIA-192-CMAC\0" "camellia-192-cmac\0" "CAMELLIA-256-ECB\0",
-    "camellia-256-ecb\0" "CAMELLIA-256-OFB\0" "camellia-256-ofb\0" "CAMELLIA-256-CFB\0" "camellia-256-cfb\0"
-    "CAMELLIA-256-GCM\0" "camellia-256-gcm\0" "CAMELLIA-256-CCM\0" "camellia-256-ccm\0" "CAMELLIA-256-CTR\0"
-    "camellia-256-ctr\0" "CAMELLIA-256-CMAC\0" "camellia-256-cmac\0" "itu-t-identified-organization\0" "etsi\0"
-    "electronic-signature-standard\0" "ess-attributes\0" "id-aa-ets-mimeType\0" "id-aa-ets-longTermValidation\0"
-    "id-aa-ets-SignaturePolicyDocument\0" "id-aa-ets-archiveTimestampV3\0" "id-aa-ATSHashIndex\0" "cades\0"
-    "cades-attributes\0" "id-aa-ets-signerAttrV2\0" "id-aa-ets-sigPolicyStore\0", "id-aa-ATSHashIndex-v2\0"
-    "id-aa-ATSHashIndex-v3\0" "signedAssertion\0" "data\0" "pss\0" "ucl\0" "pilot\0" "pilotAttributeType\0" "User ID\0"
-    "homeTelephoneNumber\0" "id-domainComponent\0" "Domain Component\0" "pilotAttributeType27\0" "uid\0"
-    "pilotAttributeSyntax\0" "iA5StringSyntax\0" "caseIgnoreIA5StringSyntax\0" "pilotObjectClass\0" "newPilotPerson\0"
-    "documentSeries\0" "pilotGroups\0" "GMAC\0" "gmac\0" "whirlpool\0" "id-kem-rsa\0" "member-body\0"
-    "ISO Member Body\0" "ISO-CN\0" "ISO CN Member Body\0" "oscca\0" "sm-scheme\0" "SM4-ECB\0" "sm4-ecb\0" "SM4-CBC\0"
-    "sm4-cbc\0" "SM4\0" "SM4-OFB\0" "sm4-ofb\0" "SM4-OFB128\0" "SM4-CFB\0" "sm4-cfb\0" "SM4-CFB128\0" "SM4-CFB1\0",
-    "sm4-cfb1\0" "SM4-CFB8\0" "sm4-cfb8\0" "SM4-CTR\0" "sm4-ctr\0" "SM4-GCM\0" "sm4-gcm\0" "SM4-CCM\0" "sm4-ccm\0"
-    "SM4-XTS\0" "sm4-xts\0" "SM2\0" "sm2\0" "SM3\0" "sm3\0" "hmacWithSM3\0" "SM2-SM3\0" "SM2-with-SM3\0" "RSA-SM3\0"
-    "sm3WithRSAEncryption\0" "CAMELLIA-128-CBC\0" "camellia-128-cbc\0" "CAMELLIA128\0" "id-camellia128-cbc\0"
-    "CAMELLIA-192-CBC\0" "camellia-192-cbc\0" "CAMELLIA192\0" "id-camellia192-cbc\0" "CAMELLIA-256-CBC\0"
-    "camellia-256-cbc\0" "CAMELLIA256\0" "id-camellia256-cbc\0" "id-camellia128-wrap\0" "id-camellia192-wrap\0"
-    "id-camellia256-wrap\0" "KISA\0" "kisa\0" "SEED-ECB\0" "seed-ecb\0" "SEED-CBC\0" "seed-cbc\0" "id-seedCBC\0"
-    "SEED-CFB\0" "seed-cfb\0" "SEED-OFB\0", "seed-ofb\0" "ARIA-128-ECB\0" "aria-128-ecb\0" "ARIA-128-CBC\0"
-    "aria-128-cbc\0" "ARIA128\0" "ARIA-128-CFB\0" "aria-128-cfb\0" "ARIA-128-OFB\0" "aria-128-ofb\0" "ARIA-128-CTR\0"
-    "aria-128-ctr\0" "ARIA-192-ECB\0" "aria-192-ecb\0" "ARIA-192-CBC\0" "aria-192-cbc\0" "ARIA192\0" "ARIA-192-CFB\0"
-    "aria-192-cfb\0" "ARIA-192-OFB\0" "aria-192-ofb\0" "ARIA-192-CTR\0" "aria-192-ctr\0" "ARIA-256-ECB\0"
-    "aria-256-ecb\0" "ARIA-256-CBC\0" "aria-256-cbc\0" "ARIA256\0" "ARIA-256-CFB\0" "aria-256-cfb\0" "ARIA-256-OFB\0"
-    "aria-256-ofb\0" "ARIA-256-CTR\0" "aria-256-ctr\0" "ARIA-128-GCM\0" "aria-128-gcm\0" "ARIA-192-GCM\0"
-    "aria-192-gcm\0" "ARIA-256-GCM\0" "aria-256-gcm\0", "ARIA-128-CCM\0" "aria-128-ccm\0" "ARIA-192-CCM\0"
-    "aria-192-ccm\0" "ARIA-256-CCM\0" "aria-256-ccm\0" "cryptopro\0" "id-GostR3411-94-with-GostR3410-2001\0"
-    "GOST R 34.11-94 with GOST R 34.10-2001\0" "GOSTR341001\0" "id-GostR3411-94-with-GostR3410-94\0"
-    "GOST R 34.11-94 with GOST R 34.10-94\0" "md_gost94\0" "GOST R 34.11-94\0" "GOSTR341194\0" "id-HMACGostR3411-94\0"
-    "HMAC GOST 34.11-94\0" "id-Gost28147-89-None-KeyMeshing\0" "id-Gost28147-89-CryptoPro-KeyMeshing\0" "gost2001\0"
-    "GOST R 34.10-2001\0" "gost94\0" "GOST R 34.10-94\0" "id-GostR3410-94-a\0" "id-GostR3410-94-aBis\0"
-    "id-GostR3410-94-b\0", "id-GostR3410-94-bBis\0" "gost89\0" "GOST 28147-89\0" "gost-mac\0" "GOST 28147-89 MAC\0"
-    "prf-gostr3411-94\0" "GOST R 34.11-94 PRF\0" "id-GostR3411-94-TestParamSet\0" "id-GostR3411-94-CryptoProParamSet\0"
-    "id-Gost28147-89-TestParamSet\0" "id-Gost28147-89-CryptoPro-A-ParamSet\0" "id-Gost28147-89-CryptoPro-B-ParamSet\0"
+    "zeroDotZero\0" "name_distinguisher\0" "CAMELLIA-128-ECB\0" "camellia-128-ecb\0" "CAMELLIA-128-OFB\0"
+    "camellia-128-ofb\0" "CAMELLIA-128-CFB\0" "camellia-128-cfb\0" "CAMELLIA-128-GCM\0" "camellia-128-gcm\0"
+    "CAMELLIA-128-CCM\0" "camellia-128-ccm\0" "CAMELLIA-128-CTR\0" "camellia-128-ctr\0" "CAMELLIA-128-CMAC\0"
+    "camellia-128-cmac\0" "CAMELLIA-192-ECB\0" "camellia-192-ecb\0" "CAMELLIA-192-OFB\0" "camellia-192-ofb\0"
+    "CAMELLIA-192-CFB\0" "camellia-192-cfb\0" "CAMELLIA-192-GCM\0" "camellia-192-gcm\0" "CAMELLIA-192-CCM\0"
+    "camellia-192-ccm\0" "CAMELLIA-192-CTR\0" "camellia-192-ctr\0" "CAMELLIA-192-CMAC\0", "camellia-192-cmac\0"
+    "CAMELLIA-256-ECB\0" "camellia-256-ecb\0" "CAMELLIA-256-OFB\0" "camellia-256-ofb\0" "CAMELLIA-256-CFB\0"
+    "camellia-256-cfb\0" "CAMELLIA-256-GCM\0" "camellia-256-gcm\0" "CAMELLIA-256-CCM\0" "camellia-256-ccm\0"
+    "CAMELLIA-256-CTR\0" "camellia-256-ctr\0" "CAMELLIA-256-CMAC\0" "camellia-256-cmac\0"
+    "itu-t-identified-organization\0" "etsi\0" "electronic-signature-standard\0" "ess-attributes\0"
+    "id-aa-ets-mimeType\0" "id-aa-ets-longTermValidation\0" "id-aa-ets-SignaturePolicyDocument\0"
+    "id-aa-ets-archiveTimestampV3\0" "id-aa-ATSHashIndex\0" "etsiQcsProfile\0" "etsiQcs\0", "id-etsi-qcs-QcCompliance\0"
+    "QcCompliance\0" "etsiQcsCompliance\0" "id-etsi-qcs-QcLimitValue\0" "QcLimitValue\0" "etsiQcsLimitValue\0"
+    "id-etsi-qcs-QcRetentionPeriod\0" "QcRetentionPeriod\0" "etsiQcsRetentionPeriod\0" "id-etsi-qcs-QcSSCD\0" "QcSSCD\0"
+    "etsiQcsQcSSCD\0" "id-etsi-qcs-QcPDS\0" "QcPDS\0" "id-etsi-qcs-QcType\0" "QcType\0" "id-etsi-qct-esign\0"
+    "id-etsi-qct-eseal\0" "id-etsi-qct-web\0" "id-etsi-qcs-QcCClegislation\0" "QcCClegislation\0" "ncpplus\0" "evcp\0"
+    "dvcp\0" "ovcp\0" "cades\0" "cades-attributes\0" "id-aa-ets-signerAttrV2\0" "id-aa-ets-sigPolicyStore\0"
+    "id-aa-ATSHashIndex-v2\0" "id-aa-ATSHashIndex-v3\0", "signedAssertion\0" "id-psd2-role-psp-as\0"
+    "id-psd2-role-psp-pi\0" "id-psd2-role-psp-ai\0" "id-psd2-role-psp-ic\0" "id-etsi-psd2-qcStatement\0"
+    "qcp-web-psd2\0" "qcp-natural\0" "QCP-n\0" "qcp-legal\0" "QCP-l\0" "qcp-natural-qscd\0" "QCP-n-qscd\0"
+    "qcp-legal-qscd\0" "QCP-l-qscd\0" "qcp-web\0" "QEVCP-w\0" "QNCP-w\0" "id-etsi-qcs-semanticsId-Natural\0"
+    "id-etsi-qcs-SemanticsId-Legal\0" "id-etsi-qcs-semanticsId-eIDASNatural\0" "id-etsi-qcs-semanticsId-eIDASLegal\0"
+    "id-etsi-ext-valassured-ST-certs\0" "data\0" "pss\0" "ucl\0" "pilot\0" "pilotAttributeType\0" "User ID\0"
+    "user_id\0" "homeTelephoneNumber\0" "id-domainComponent\0", "Domain Component\0" "domain_component\0"
+    "pilotAttributeType27\0" "uid\0" "pilotAttributeSyntax\0" "iA5StringSyntax\0" "caseIgnoreIA5StringSyntax\0"
+    "pilotObjectClass\0" "newPilotPerson\0" "documentSeries\0" "pilotGroups\0" "lldpMIB\0" "lldpNotifications\0"
+    "lldpNotificationPrefix\0" "lldpRemTablesChange\0" "lldpObjects\0" "lldpConfiguration\0" "lldpMessageTxInterval\0"
+    "lldpMessageTxHoldMultiplier\0" "lldpReinitDelay\0" "lldpTxDelay\0" "lldpNotificationInterval\0"
+    "lldpPortConfigTable\0" "lldpPortConfigEntry\0" "lldpPortConfigPortNum\0" "lldpPortConfigAdminStatus\0"
+    "lldpPortConfigNotificationEnable\0", "lldpPortConfigTLVsTxEnable\0" "lldpStatistics\0"
+    "lldpStatsRemTablesLastChangeTime\0" "lldpStatsRemTablesInserts\0" "lldpStatsRemTablesDeletes\0"
+    "lldpStatsRemTablesDrops\0" "lldpStatsRemTablesAgeouts\0" "lldpStatsTxPortTable\0" "lldpStatsRxPortTable\0"
+    "lldpLocalSystemData\0" "lldpLocChassisIdSubtype\0" "lldpLocChassisId\0" "lldpLocSysName\0" "lldpLocSysDesc\0"
+    "lldpLocSysCapSupported\0" "lldpLocSysCapEnabled\0" "lldpLocPortTable\0" "lldpLocPortEntry\0" "lldpLocPortNum\0"
+    "lldpLocPortIdSubtype\0" "lldpLocPortId\0" "lldpLocPortDesc\0" "lldpLocManAddrTable\0" "lldpLocManAddrEntry\0",
+    "lldpLocManAddrSubtype\0" "lldpLocManAddr\0" "lldpLocManAddrLen\0" "lldpLocManAddrIfSubtype\0"
+    "lldpLocManAddrIfId\0" "lldpLocManAddrOID\0" "lldpRemoteSystemsData\0" "lldpRemTable\0" "lldpRemEntry\0"
+    "lldpRemTimeMark\0" "lldpRemLocalPortNum\0" "lldpRemIndex\0" "lldpRemChassisIdSubtype\0" "lldpRemChassisId\0"
+    "lldpRemPortIdSubtype\0" "lldpRemPortId\0" "lldpRemPortDesc\0" "lldpRemSysName\0" "lldpRemSysDesc\0"
+    "lldpRemSysCapSupported\0" "lldpRemSysCapEnabled\0" "lldpRemManAddrTable\0" "lldpRemManAddrEntry\0"
+    "lldpRemManAddrSubtype\0" "lldpRemManAddr\0" "lldpRemManAddrIfSubtype\0" "lldpRemManAddrIfId\0",
+    "lldpRemManAddrOID\0" "lldpExtensions\0" "GMAC\0" "gmac\0" "whirlpool\0" "is18033-2\0" "id-kem-rsa\0"
+    "member-body\0" "ISO Member Body\0" "ISO-CN\0" "ISO CN Member Body\0" "oscca\0" "sm-scheme\0" "SM4-ECB\0"
+    "sm4-ecb\0" "SM4-CBC\0" "sm4-cbc\0" "SM4\0" "SM4-OFB\0" "sm4-ofb\0" "SM4-OFB128\0" "SM4-CFB\0" "sm4-cfb\0"
+    "SM4-CFB128\0" "SM4-CFB1\0" "sm4-cfb1\0" "SM4-CFB8\0" "sm4-cfb8\0" "SM4-CTR\0" "sm4-ctr\0" "SM4-GCM\0" "sm4-gcm\0"
+    "SM4-CCM\0" "sm4-ccm\0" "SM4-XTS\0" "sm4-xts\0" "SM2\0" "sm2\0" "sm2p256v1\0" "wapip192v1\0" "SM3\0" "sm3\0"
+    "hmacWithSM3\0" "SM2-SM3\0" "SM2-with-SM3\0" "RSA-SM3\0" "sm3WithRSAEncryption\0" "FRP256v1\0" "CAMELLIA-128-CBC\0"
+    "camellia-128-cbc\0" "CAMELLIA128\0" "id-camellia128-cbc\0", "CAMELLIA-192-CBC\0" "camellia-192-cbc\0"
+    "CAMELLIA192\0" "id-camellia192-cbc\0" "CAMELLIA-256-CBC\0" "camellia-256-cbc\0" "CAMELLIA256\0"
+    "id-camellia256-cbc\0" "id-camellia128-wrap\0" "id-camellia192-wrap\0" "id-camellia256-wrap\0" "KISA\0" "kisa\0"
+    "SEED-ECB\0" "seed-ecb\0" "SEED-CBC\0" "seed-cbc\0" "id-seedCBC\0" "SEED-CFB\0" "seed-cfb\0" "SEED-OFB\0"
+    "seed-ofb\0" "ARIA-128-ECB\0" "aria-128-ecb\0" "ARIA-128-CBC\0" "aria-128-cbc\0" "ARIA128\0" "ARIA-128-CFB\0"
+    "aria-128-cfb\0" "ARIA-128-OFB\0" "aria-128-ofb\0" "ARIA-128-CTR\0" "aria-128-ctr\0" "ARIA-192-ECB\0"
+    "aria-192-ecb\0" "ARIA-192-CBC\0" "aria-192-cbc\0" "ARIA192\0" "ARIA-192-CFB\0" "aria-192-cfb\0", "ARIA-192-OFB\0"
+    "aria-192-ofb\0" "ARIA-192-CTR\0" "aria-192-ctr\0" "ARIA-256-ECB\0" "aria-256-ecb\0" "ARIA-256-CBC\0"
+    "aria-256-cbc\0" "ARIA256\0" "ARIA-256-CFB\0" "aria-256-cfb\0" "ARIA-256-OFB\0" "aria-256-ofb\0" "ARIA-256-CTR\0"
+    "aria-256-ctr\0" "ARIA-128-GCM\0" "aria-128-gcm\0" "ARIA-192-GCM\0" "aria-192-gcm\0" "ARIA-256-GCM\0"
+    "aria-256-gcm\0" "ARIA-128-CCM\0" "aria-128-ccm\0" "ARIA-192-CCM\0" "aria-192-ccm\0" "ARIA-256-CCM\0"
+    "aria-256-ccm\0" "cryptopro\0" "id-GostR3411-94-with-GostR3410-2001\0" "GOST R 34.11-94 with GOST R 34.10-2001\0"
+    "GOSTR341001\0" "id-GostR3411-94-with-GostR3410-94\0", "GOST R 34.11-94 with GOST R 34.10-94\0" "md_gost94\0"
+    "GOST R 34.11-94\0" "GOSTR341194\0" "id-HMACGostR3411-94\0" "HMAC GOST 34.11-94\0"
+    "id-Gost28147-89-None-KeyMeshing\0" "id-Gost28147-89-CryptoPro-KeyMeshing\0" "gost2001\0" "GOST R 34.10-2001\0"
+    "gost94\0" "GOST R 34.10-94\0" "id-GostR3410-94-a\0" "id-GostR3410-94-aBis\0" "id-GostR3410-94-b\0"
+    "id-GostR3410-94-bBis\0" "gost89\0" "GOST 28147-89\0" "gost-mac\0" "GOST 28147-89 MAC\0" "prf-gostr3411-94\0"
+    "GOST R 34.11-94 PRF\0" "id-GostR3411-94-TestParamSet\0" "id-GostR3411-94-CryptoProParamSet\0"
+    "id-Gost28147-89-TestParamSet\0", "id-Gost28147-89-CryptoPro-A-ParamSet\0" "id-Gost28147-89-CryptoPro-B-ParamSet\0"
     "id-Gost28147-89-CryptoPro-C-ParamSet\0" "id-Gost28147-89-CryptoPro-D-ParamSet\0"
     "id-Gost28147-89-CryptoPro-Oscar-1-1-ParamSet\0" "id-Gost28147-89-CryptoPro-Oscar-1-0-ParamSet\0"
-    "id-Gost28147-89-CryptoPro-RIC-1-ParamSet\0" "id-GostR3410-94-TestParamSet\0",
+    "id-Gost28147-89-CryptoPro-RIC-1-ParamSet\0" "id-GostR3410-94-TestParamSet\0"
     "id-GostR3410-94-CryptoPro-A-ParamSet\0" "id-GostR3410-94-CryptoPro-B-ParamSet\0"
     "id-GostR3410-94-CryptoPro-C-ParamSet\0" "id-GostR3410-94-CryptoPro-D-ParamSet\0"
-    "id-GostR3410-94-CryptoPro-XchA-ParamSet\0" "id-GostR3410-94-CryptoPro-XchB-ParamSet\0"
+    "id-GostR3410-94-CryptoPro-XchA-ParamSet\0", "id-GostR3410-94-CryptoPro-XchB-ParamSet\0"
     "id-GostR3410-94-CryptoPro-XchC-ParamSet\0" "id-GostR3410-2001-TestParamSet\0"
     "id-GostR3410-2001-CryptoPro-A-ParamSet\0" "id-GostR3410-2001-CryptoPro-B-ParamSet\0"
     "id-GostR3410-2001-CryptoPro-C-ParamSet\0" "id-GostR3410-2001-CryptoPro-XchA-ParamSet\0"
-    "id-GostR3410-2001-CryptoPro-XchB-ParamSet\0", "id-GostR3410-2001DH\0" "GOST R 34.10-2001 DH\0"
-    "id-GostR3410-94DH\0" "GOST R 34.10-94 DH\0" "cryptocom\0" "id-GostR3411-94-with-GostR3410-94-cc\0"
-    "GOST R 34.11-94 with GOST R 34.10-94 Cryptocom\0" "id-GostR3411-94-with-GostR3410-2001-cc\0"
+    "id-GostR3410-2001-CryptoPro-XchB-ParamSet\0" "id-GostR3410-2001DH\0" "GOST R 34.10-2001 DH\0" "id-GostR3410-94DH\0"
+    "GOST R 34.10-94 DH\0" "cryptocom\0" "id-GostR3411-94-with-GostR3410-94-cc\0"
+    "GOST R 34.11-94 with GOST R 34.10-94 Cryptocom\0", "id-GostR3411-94-with-GostR3410-2001-cc\0"
     "GOST R 34.11-94 with GOST R 34.10-2001 Cryptocom\0" "gost94cc\0" "GOST 34.10-94 Cryptocom\0" "gost2001cc\0"
     "GOST 34.10-2001 Cryptocom\0" "id-Gost28147-89-cc\0" "GOST 28147-89 Cryptocom ParamSet\0"
     "id-GostR3410-2001-ParamSet-cc\0" "GOST R 3410-2001 Parameter Set Cryptocom\0" "INN\0" "id-tc26\0"
-    "id-tc26-algorithms\0" "id-tc26-sign\0", "gost2012_256\0" "GOST R 34.10-2012 with 256 bit modulus\0"
-    "gost2012_512\0" "GOST R 34.10-2012 with 512 bit modulus\0" "id-tc26-digest\0" "md_gost12_256\0"
-    "GOST R 34.11-2012 with 256 bit hash\0" "STREEBOG-256\0" "md_gost12_512\0" "GOST R 34.11-2012 with 512 bit hash\0"
+    "id-tc26-algorithms\0" "id-tc26-sign\0" "gost2012_256\0" "GOST R 34.10-2012 with 256 bit modulus\0" "gost2012_512\0"
+    "GOST R 34.10-2012 with 512 bit modulus\0" "id-tc26-digest\0" "md_gost12_256\0"
+    "GOST R 34.11-2012 with 256 bit hash\0" "STREEBOG-256\0", "md_gost12_512\0" "GOST R 34.11-2012 with 512 bit hash\0"
     "STREEBOG-512\0" "id-tc26-signwithdigest\0" "id-tc26-signwithdigest-gost3410-2012-256\0"
     "GOST R 34.10-2012 with GOST R 34.11-2012 (256 bit)\0" "GOSTR341012-256\0"
     "id-tc26-signwithdigest-gost3410-2012-512\0" "GOST R 34.10-2012 with GOST R 34.11-2012 (512 bit)\0"
-    "GOSTR341012-512\0" "id-tc26-mac\0", "id-tc26-hmac-gost-3411-2012-256\0" "HMAC GOST 34.11-2012 256 bit\0"
+    "GOSTR341012-512\0" "id-tc26-mac\0" "id-tc26-hmac-gost-3411-2012-256\0" "HMAC GOST 34.11-2012 256 bit\0"
     "id-tc26-hmac-gost-3411-2012-512\0" "HMAC GOST 34.11-2012 512 bit\0" "id-tc26-cipher\0"
-    "id-tc26-cipher-gostr3412-2015-magma\0" "magma-ctr-acpkm\0" "magma-ctr-acpkm-omac\0"
+    "id-tc26-cipher-gostr3412-2015-magma\0" "magma-ctr-acpkm\0", "magma-ctr-acpkm-omac\0"
     "id-tc26-cipher-gostr3412-2015-kuznyechik\0" "kuznyechik-ctr-acpkm\0" "kuznyechik-ctr-acpkm-omac\0"
     "id-tc26-agreement\0" "id-tc26-agreement-gost-3410-2012-256\0" "id-tc26-agreement-gost-3410-2012-512\0"
     "id-tc26-wrap\0" "id-tc26-wrap-gostr3412-2015-magma\0" "magma-kexp15\0" "id-tc26-wrap-gostr3412-2015-kuznyechik\0"
-    "kuznyechik-kexp15\0", "id-tc26-constants\0" "id-tc26-sign-constants\0" "id-tc26-gost-3410-2012-256-constants\0"
+    "kuznyechik-kexp15\0" "id-tc26-constants\0" "id-tc26-sign-constants\0" "id-tc26-gost-3410-2012-256-constants\0"
     "id-tc26-gost-3410-2012-256-paramSetA\0" "GOST R 34.10-2012 (256 bit) ParamSet A\0"
-    "id-tc26-gost-3410-2012-256-paramSetB\0" "GOST R 34.10-2012 (256 bit) ParamSet B\0"
+    "id-tc26-gost-3410-2012-256-paramSetB\0", "GOST R 34.10-2012 (256 bit) ParamSet B\0"
     "id-tc26-gost-3410-2012-256-paramSetC\0" "GOST R 34.10-2012 (256 bit) ParamSet C\0"
     "id-tc26-gost-3410-2012-256-paramSetD\0" "GOST R 34.10-2012 (256 bit) ParamSet D\0"
     "id-tc26-gost-3410-2012-512-constants\0" "id-tc26-gost-3410-2012-512-paramSetTest\0"
-    "GOST R 34.10-2012 (512 bit) testing parameter set\0", "id-tc26-gost-3410-2012-512-paramSetA\0"
+    "GOST R 34.10-2012 (512 bit) testing parameter set\0" "id-tc26-gost-3410-2012-512-paramSetA\0"
     "GOST R 34.10-2012 (512 bit) ParamSet A\0" "id-tc26-gost-3410-2012-512-paramSetB\0"
-    "GOST R 34.10-2012 (512 bit) ParamSet B\0" "id-tc26-gost-3410-2012-512-paramSetC\0"
+    "GOST R 34.10-2012 (512 bit) ParamSet B\0" "id-tc26-gost-3410-2012-512-paramSetC\0",
     "GOST R 34.10-2012 (512 bit) ParamSet C\0" "id-tc26-digest-constants\0" "id-tc26-cipher-constants\0"
     "id-tc26-gost-28147-constants\0" "id-tc26-gost-28147-param-Z\0" "GOST 28147-89 TC26 parameter set\0" "OGRN\0"
     "SNILS\0" "OGRNIP\0" "subjectSignTool\0" "Signing Tool of Subject\0" "issuerSignTool\0" "Signing Tool of Issuer\0"
-    "classSignTool\0" "Class of Signing Tool\0", "classSignToolKC1\0" "Class of Signing Tool KC1\0" "classSignToolKC2\0"
+    "classSignTool\0" "Class of Signing Tool\0" "classSignToolKC1\0" "Class of Signing Tool KC1\0" "classSignToolKC2\0"
     "Class of Signing Tool KC2\0" "classSignToolKC3\0" "Class of Signing Tool KC3\0" "classSignToolKB1\0"
-    "Class of Signing Tool KB1\0" "classSignToolKB2\0" "Class of Signing Tool KB2\0" "classSignToolKA1\0"
-    "Class of Signing Tool KA1\0" "ISO-UA\0" "ua-pki\0" "dstu28147\0" "DSTU Gost 28147-2009\0" "dstu28147-ofb\0"
-    "DSTU Gost 28147-2009 OFB mode\0" "dstu28147-cfb\0" "DSTU Gost 28147-2009 CFB mode\0" "dstu28147-wrap\0"
-    "DSTU Gost 28147-2009 key wrap\0" "hmacWithDstu34311\0" "HMAC DSTU Gost 34311-95\0" "dstu34311\0"
-    "DSTU Gost 34311-95\0", "dstu4145le\0" "DSTU 4145-2002 little endian\0" "dstu4145be\0" "DSTU 4145-2002 big endian\0"
+    "Class of Signing Tool KB1\0" "classSignToolKB2\0", "Class of Signing Tool KB2\0" "classSignToolKA1\0"
+    "Class of Signing Tool KA1\0" "sisLegalGuardianFor\0" "sisSchoolGrade\0" "sisSchoolUnitCode\0" "sisOrgDepartment\0"
+    "e-legnamnden\0" "id-eleg-ce\0" "id-ce-authContext\0" "ISO-UA\0" "ua-pki\0" "dstu28147\0" "DSTU Gost 28147-2009\0"
+    "dstu28147-ofb\0" "DSTU Gost 28147-2009 OFB mode\0" "dstu28147-cfb\0" "DSTU Gost 28147-2009 CFB mode\0"
+    "dstu28147-wrap\0" "DSTU Gost 28147-2009 key wrap\0" "hmacWithDstu34311\0" "HMAC DSTU Gost 34311-95\0" "dstu34311\0"
+    "DSTU Gost 34311-95\0" "dstu4145le\0" "DSTU 4145-2002 little endian\0" "dstu4145be\0" "DSTU 4145-2002 big endian\0",
     "uacurve0\0" "DSTU curve 0\0" "uacurve1\0" "DSTU curve 1\0" "uacurve2\0" "DSTU curve 2\0" "uacurve3\0"
     "DSTU curve 3\0" "uacurve4\0" "DSTU curve 4\0" "uacurve5\0" "DSTU curve 5\0" "uacurve6\0" "DSTU curve 6\0"
     "uacurve7\0" "DSTU curve 7\0" "uacurve8\0" "DSTU curve 8\0" "uacurve9\0" "DSTU curve 9\0"
     "LDAP_CONTROL_VALUESRETURNFILTER\0" "ISO-US\0" "ISO US Member Body\0" "X9-57\0" "X9.57\0" "holdInstructionNone\0"
-    "Hold Instruction None\0" "holdInstructionCallIssuer\0" "Hold Instruction Call Issuer\0" "holdInstructionReject\0",
+    "Hold Instruction None\0" "holdInstructionCallIssuer\0" "Hold Instruction Call Issuer\0" "holdInstructionReject\0"
     "Hold Instruction Reject\0" "X9cm\0" "X9.57 CM ?\0" "DSA\0" "dsaEncryption\0" "ANSI X9.57 DSA Signature\0"
-    "DSA-SHA1\0" "dsaWithSHA1\0" "DSA-SHA-1\0" "id-dsa-with-sha1\0" "DSA with SHA-1\0" "SHA1withDSA\0" "DSS\0"
-    "ANSI X9.57 DSA Signature with SHA-1 Digest\0" "ANSI X9.62\0" "prime-field\0" "characteristic-two-field\0"
-    "id-characteristic-two-basis\0" "onBasis\0" "tpBasis\0" "ppBasis\0" "EC\0" "ECDSA\0" "EC/ECDSA\0"
-    "X9.62 elliptic curve public key\0" "c2pnb163v1\0" "c2pnb163v2\0" "c2pnb163v3\0" "c2pnb176v1\0" "c2tnb191v1\0"
-    "c2tnb191v2\0" "c2tnb191v3\0" "c2onb191v4\0" "c2onb191v5\0" "c2pnb208w1\0" "c2tnb239v1\0" "c2tnb239v2\0"
-    "c2tnb239v3\0" "c2onb239v4\0", "c2onb239v5\0" "c2pnb272w1\0" "c2pnb304w1\0" "c2tnb359v1\0" "c2pnb368w1\0"
-    "c2tnb431r1\0" "P-192\0" "prime192v1\0" "secp192r1\0" "NIST P-192\0" "P192\0" "prime192v2\0" "prime192v3\0"
-    "prime239v1\0" "prime239v2\0" "prime239v3\0" "P-256\0" "prime256v1\0" "nistp256\0" "NIST P-256\0" "P256\0"
-    "ecdsa-with-SHA1\0" "ECDSA-SHA-1\0" "ECDSA-SHA1\0" "ECDSA with SHA-1\0" "SHA1withECDSA\0"
-    "X9.62 ECDSA signature with SHA-1\0" "ecdsa-with-Recommended\0" "X9.62 ECDSA signature with recommended digest\0"
+    "id_dsa\0" "DSA-SHA1\0", "dsaWithSHA1\0" "DSA-SHA-1\0" "id-dsa-with-sha1\0" "DSA with SHA-1\0" "SHA1withDSA\0"
+    "DSS\0" "ANSI X9.57 DSA Signature with SHA-1 Digest\0" "sha1_dsa\0" "id_dsa_with_sha1\0" "ANSI X9.62\0"
+    "id-fieldType\0" "prime-field\0" "prime_field\0" "characteristic-two-field\0" "characteristic_two_field\0"
+    "id-characteristic-two-basis\0" "onBasis\0" "gnBasis\0" "tpBasis\0" "ppBasis\0" "id-publicKeyType\0" "EC\0"
+    "ECDSA\0" "EC/ECDSA\0" "X9.62 elliptic curve public key\0" "ecPublicKey\0" "id_ecPublicKey\0" "c-TwoCurve\0"
+    "c2pnb163v1\0" "c2pnb163v2\0" "c2pnb163v3\0" "c2pnb176v1\0" "c2pnb176w1\0" "c2tnb191v1\0" "c2tnb191v2\0"
+    "c2tnb191v3\0" "c2onb191v4\0", "c2onb191v5\0" "c2pnb208w1\0" "c2tnb239v1\0" "c2tnb239v2\0" "c2tnb239v3\0"
+    "c2onb239v4\0" "c2onb239v5\0" "c2pnb272w1\0" "c2pnb304w1\0" "c2tnb359v1\0" "c2pnb368w1\0" "c2tnb431r1\0"
+    "primeCurve\0" "P-192\0" "prime192v1\0" "secp192r1\0" "NIST P-192\0" "P192\0" "nistp192\0" "NIST192p\0"
+    "prime192v2\0" "prime192v3\0" "prime239v1\0" "prime239v2\0" "prime239v3\0" "P-256\0" "prime256v1\0" "nistp256\0"
+    "NIST P-256\0" "P256\0" "NIST256p\0" "id-ecSigType\0" "ecdsa-with-SHA1\0" "ECDSA-SHA-1\0" "ECDSA-SHA1\0"
+    "ECDSA with SHA-1\0" "SHA1withECDSA\0" "X9.62 ECDSA signature with SHA-1\0" "ECDSAWithSHA1\0" "sha1_ecdsa\0"
+    "ecdsa_with_SHA1\0" "ecdsa-with-Recommended\0", "X9.62 ECDSA signature with recommended digest\0"
     "ecdsa-with-Specified\0" "SpecifiedSHA2withECDSA\0" "X9.62 ECDSA signature with specified digest\0"
-    "ECDSA-SHA2-224\0" "ECDSA-SHA224\0", "SHA224withECDSA\0" "X9.62 ECDSA signature with SHA224\0" "ECDSA-SHA2-256\0"
-    "ECDSA-SHA256\0" "ES256\0" "ECDSA with SHA-256\0" "SHA256withECDSA\0" "X9.62 ECDSA signature with SHA256\0"
-    "ECDSA-SHA2-384\0" "ECDSA-SHA384\0" "ES384\0" "ECDSA with SHA-384\0" "SHA384withECDSA\0"
-    "X9.62 ECDSA signature with SHA384\0" "ECDSA-SHA2-512\0" "ECDSA-SHA512\0" "ES512\0" "ECDSA with SHA-512\0"
-    "SHA512withECDSA\0" "X9.62 ECDSA signature with SHA512\0" "X9.42 DH\0" "DHX\0" "dh-public-number\0"
-    "gss_mech_krb5_wrong\0" "MS-KRB5\0" "CAST5-CBC\0" "cast5-cbc\0" "pbeWithMD5AndCast5CBC\0" "password based MAC\0"
-    "Diffie-Hellman based MAC\0", "RSA Data Security, Inc.\0" "RSA Data Security, Inc. PKCS\0" "pkcs1\0" "RSA1_5\0"
-    "RSA/ECB/PKCS1Padding\0" "PKCS #1 RSA Encryption\0" "RSA-MD2\0" "MD2withRSA\0" "PKCS #1 MD2 With RSA Encryption\0"
-    "RSA-MD4\0" "md4WithRSAEncryption\0" "PKCS #1 MD4 With RSA Encryption\0" "RSA-MD5\0" "MD5 with RSA Encryption\0"
-    "MD5-RSA\0" "PKCS #1 MD5 With RSA Encryption\0" "RSA-SHA1\0" "RSA-SHA-1\0" "SHA-1 with RSA Encryption\0"
-    "SHA1-RSA\0" "PKCS #1 SHA-1 With RSA Encryption\0" "rsaOAEPEncryptionSET\0" "RSAES-OAEP\0" "rsaesOaep\0"
-    "RSA-OAEP\0" "OAEP\0" "PKCS #1 RSA-OAEP Encryption\0" "MGF1\0" "mgf1\0", "PKCS #1 MGF1 Mask Generation Function\0"
-    "PSPECIFIED\0" "pSpecified\0" "PKCS #1 RSA-OAEP Explicitly Specified Encoding Parameters\0" "RSASSA-PSS\0"
-    "rsassaPss\0" "RSA-PSS\0" "SHA256-RSAPSS\0" "SHA384-RSAPSS\0" "SHA512-RSAPSS\0" "RSA-PSS-SHA256\0"
-    "RSA-PSS-SHA384\0" "RSA-PSS-SHA512\0" "PKCS #1 RSA-PSS Signature\0" "RSA-SHA256\0" "RSA-SHA2-256\0" "RS256\0"
-    "SHA-256 with RSA Encryption\0" "SHA256withRSA\0" "SHA256-RSA\0" "PKCS #1 SHA-256 With RSA Encryption\0"
-    "RSA-SHA384\0" "RSA-SHA2-384\0" "RS384\0" "SHA-384 with RSA Encryption\0" "SHA384withRSA\0" "SHA384-RSA\0"
-    "PKCS #1 SHA-384 With RSA Encryption\0" "RSA-SHA512\0", "RSA-SHA2-512\0" "RS512\0" "SHA-512 with RSA Encryption\0"
-    "SHA512withRSA\0" "SHA512-RSA\0" "PKCS #1 SHA-512 With RSA Encryption\0" "RSA-SHA224\0" "RSA-SHA2-224\0"
-    "SHA224withRSA\0" "PKCS #1 SHA-224 With RSA Encryption\0" "RSA-SHA512/224\0" "sha512-224WithRSAEncryption\0"
-    "RSA-SHA2-512/224\0" "RSA-SHA512-224\0" "SHA512/224withRSA\0" "RSA-SHA512/256\0" "sha512-256WithRSAEncryption\0"
-    "RSA-SHA2-512/256\0" "RSA-SHA512-256\0" "SHA512/256withRSA\0" "pkcs3\0" "dhKeyAgreement\0" "DH\0" "DiffieHellman\0"
-    "pkcs5\0" "pkcs-5\0" "PBE-MD2-DES\0" "pbeWithMD2AndDES-CBC\0" "PBE-MD5-DES\0" "pbeWithMD5AndDES-CBC\0"
-    "PBEWithMD5AndDES\0", "PBE-MD2-RC2-64\0" "pbeWithMD2AndRC2-CBC\0" "PBE-MD5-RC2-64\0" "pbeWithMD5AndRC2-CBC\0"
-    "PBEWithMD5AndRC2\0" "PBE-SHA1-DES\0" "pbeWithSHA1AndDES-CBC\0" "PBEWithSHA1AndDES\0" "PBE-SHA1-RC2-64\0"
-    "pbeWithSHA1AndRC2-CBC\0" "PBEWithSHA1AndRC2\0" "PBKDF2\0" "PBKDF2WithHmacSHA1\0"
-    "PKCS #5 Password Based Key Dervive Function v2\0" "PBES2\0" "id-PBES2\0" "PKCS #5 Password Based Encryption v2\0"
-    "PBMAC1\0" "id-PBMAC1\0" "PKCS #5 Password Based Authentication v1\0" "pkcs7\0" "pkcs-7\0" "PKCS #7\0"
-    "pkcs7-data\0" "PKCS #7 Data\0" "pkcs7-signedData\0" "signedData\0" "PKCS #7 Signed Data\0" "pkcs7-envelopedData\0"
-    "envelopedData\0", "PKCS #7 Enveloped Data\0" "pkcs7-signedAndEnvelopedData\0" "signedAndEnvelopedData\0"
-    "PKCS #7 Signed And Enveloped Data\0" "pkcs7-digestData\0" "digestedData\0" "PKCS #7 Digested Data\0"
-    "pkcs7-encryptedData\0" "encryptedData\0" "PKCS #7 Encrypted Data\0" "pkcs9\0" "id-emailAddress\0" "pkcs9email\0"
-    "E\0" "Email Address\0" "PKCS #9 Email Address\0" "unstructuredName\0" "contentType\0" "PKCS #9 Content Type\0"
-    "messageDigest\0" "PKCS #9 Message Digest\0" "signingTime\0" "PKCS #9 Signing Time\0" "countersignature\0"
-    "PKCS #9 Counter Signature\0" "challengePassword\0" "unstructuredAddress\0", "extendedCertificateAttributes\0"
-    "IssuerAndSerialNumber\0" "extReq\0" "Extension Request\0" "ExtensionRequest\0" "PKCS #9 Extension Request\0"
-    "SMIME-CAPS\0" "S/MIME Capabilities\0" "SMIMECapability\0" "PKCS #9 S/MIME Capabilities\0" "S/MIME\0"
-    "id-smime-mod\0" "id-smime-mod-cms\0" "id-smime-mod-ess\0" "id-smime-mod-oid\0" "id-smime-mod-msg-v3\0"
-    "id-smime-mod-ets-eSignature-88\0" "id-smime-mod-ets-eSignature-97\0" "id-smime-mod-ets-eSigPolicy-88\0"
-    "id-smime-mod-ets-eSigPolicy-97\0" "id-smime-ct\0" "id-smime-ct-receipt\0" "receipt\0" "id-smime-ct-authData\0"
-    "AuthenticatedData\0" "authData\0", "id-smime-ct-publishCert\0" "id-smime-ct-TSTInfo\0" "TSTInfo\0"
-    "TimeStampTokenInfo\0" "id-smime-ct-TDTInfo\0" "id-smime-ct-contentInfo\0" "ContentInfo\0"
-    "id-smime-ct-DVCSRequestData\0" "id-smime-ct-DVCSResponseData\0" "id-smime-ct-compressedData\0" "CompressedData\0"
-    "firmwarePackage\0" "id-smime-ct-contentCollection\0" "id-smime-ct-authEnvelopedData\0" "AuthEnvelopedData\0"
-    "id-ct-routeOriginAuthz\0" "id-ct-rpkiManifest\0" "id-ct-asciiTextWithCRLF\0" "id-ct-xml\0" "id-ct-pdf\0"
-    "id-ct-trustAnchorList\0" "id-ct-rpkiGhostbusters\0" "id-ct-resourceTaggedAttest\0" "id-ct-mudtype\0"
-    "id-ct-cbor\0", "id-ct-cborSequence\0" "id-ct-geofeedCSVwithCRLF\0" "id-ct-signedChecklist\0" "id-ct-ASPA\0"
-    "id-ct-signedTAL\0" "id-ct-rpkiSignedPrefixList\0" "id-smime-aa\0" "id-smime-aa-receiptRequest\0" "receiptRequest\0"
-    "id-smime-aa-securityLabel\0" "securityLabel\0" "id-smime-aa-mlExpandHistory\0" "mlExpandHistory\0"
-    "id-smime-aa-contentHint\0" "contentHint\0" "id-smime-aa-msgSigDigest\0" "msgSigDigest\0"
-    "id-smime-aa-encapContentType\0" "id-smime-aa-contentIdentifier\0" "contentIdentifier\0" "id-smime-aa-macValue\0"
-    "id-smime-aa-equivalentLabels\0" "equivalentLabels\0" "id-smime-aa-contentReference\0", "contentReference\0"
-    "id-smime-aa-encrypKeyPref\0" "encrypKeyPref\0" "id-smime-aa-signingCertificate\0" "signingCertificate\0"
-    "id-smime-aa-smimeEncryptCerts\0" "id-smime-aa-timeStampToken\0" "timeStampToken\0"
-    "id-aa-signatureTimeStampToken\0" "SignatureTimestampToken\0" "id-smime-aa-ets-sigPolicyId\0"
-    "id-aa-ets-sigPolicyId\0" "id-smime-aa-ets-commitmentType\0" "id-aa-ets-commitmentType\0"
-    "id-smime-aa-ets-signerLocation\0" "id-aa-ets-signerLocation\0" "id-smime-aa-ets-signerAttr\0"
-    "id-aa-ets-signerAttr\0" "id-smime-aa-ets-otherSigCert\0" "id-aa-ets-otherSigCert\0",
+    "ECDSA-SHA2-224\0" "ECDSA-SHA224\0" "SHA224withECDSA\0" "X9.62 ECDSA signature with SHA224\0" "sha224_ecdsa\0"
+    "ecdsa_with_SHA224\0" "ECDSA-SHA2-256\0" "ECDSA-SHA256\0" "ES256\0" "ECDSA with SHA-256\0" "SHA256withECDSA\0"
+    "X9.62 ECDSA signature with SHA256\0" "ECDSAWithSHA256\0" "sha256_ecdsa\0" "ecdsa_with_SHA256\0" "ECDSA-SHA2-384\0"
+    "ECDSA-SHA384\0" "ES384\0" "ECDSA with SHA-384\0" "SHA384withECDSA\0" "X9.62 ECDSA signature with SHA384\0",
+    "ECDSAWithSHA384\0" "sha384_ecdsa\0" "ecdsa_with_SHA384\0" "ECDSA-SHA2-512\0" "ECDSA-SHA512\0" "ES512\0"
+    "ECDSA with SHA-512\0" "SHA512withECDSA\0" "X9.62 ECDSA signature with SHA512\0" "ECDSAWithSHA512\0"
+    "sha512_ecdsa\0" "ecdsa_with_SHA512\0" "X9.42 DH\0" "DHX\0" "dh-public-number\0" "gss_mech_krb5_wrong\0" "MS-KRB5\0"
+    "entrust_version_extension\0" "CAST5-CBC\0" "cast5-cbc\0" "pbeWithMD5AndCast5CBC\0" "password based MAC\0"
+    "Diffie-Hellman based MAC\0" "entrust_user_role\0" "RSA Data Security, Inc.\0" "RSA Data Security, Inc. PKCS\0"
+    "pkcs1\0" "RSA1_5\0" "RSA/ECB/PKCS1Padding\0" "PKCS #1 RSA Encryption\0", "rsassa_pkcs1v15\0" "rsaes_pkcs1v15\0"
+    "RSA-MD2\0" "MD2withRSA\0" "PKCS #1 MD2 With RSA Encryption\0" "MD2-RSA\0" "md2_rsa\0" "RSA-MD4\0"
+    "md4WithRSAEncryption\0" "PKCS #1 MD4 With RSA Encryption\0" "RSA-MD5\0" "MD5 with RSA Encryption\0" "MD5-RSA\0"
+    "PKCS #1 MD5 With RSA Encryption\0" "md5_rsa\0" "RSA-SHA1\0" "RSA-SHA-1\0" "SHA-1 with RSA Encryption\0"
+    "SHA1-RSA\0" "PKCS #1 SHA-1 With RSA Encryption\0" "sha1_rsa\0" "rsaOAEPEncryptionSET\0" "RSAES-OAEP\0"
+    "rsaesOaep\0" "RSA-OAEP\0" "OAEP\0" "PKCS #1 RSA-OAEP Encryption\0" "rsaes_oaep\0" "id_RSAES_OAEP\0" "MGF1\0"
+    "mgf1\0" "PKCS #1 MGF1 Mask Generation Function\0" "PSPECIFIED\0", "pSpecified\0"
+    "PKCS #1 RSA-OAEP Explicitly Specified Encoding Parameters\0" "p_specified\0" "RSASSA-PSS\0" "rsassaPss\0"
+    "RSA-PSS\0" "SHA256-RSAPSS\0" "SHA384-RSAPSS\0" "SHA512-RSAPSS\0" "RSA-PSS-SHA256\0" "RSA-PSS-SHA384\0"
+    "RSA-PSS-SHA512\0" "PKCS #1 RSA-PSS Signature\0" "SHA256WithRSAPSS\0" "SHA384WithRSAPSS\0" "SHA512WithRSAPSS\0"
+    "rsassa_pss\0" "id_RSASSA_PSS\0" "RSA-SHA256\0" "RSA-SHA2-256\0" "RS256\0" "SHA-256 with RSA Encryption\0"
+    "SHA256withRSA\0" "SHA256-RSA\0" "PKCS #1 SHA-256 With RSA Encryption\0" "sha256_rsa\0" "RSA-SHA384\0"
+    "RSA-SHA2-384\0" "RS384\0" "SHA-384 with RSA Encryption\0" "SHA384withRSA\0", "SHA384-RSA\0"
+    "PKCS #1 SHA-384 With RSA Encryption\0" "sha384_rsa\0" "RSA-SHA512\0" "RSA-SHA2-512\0" "RS512\0"
+    "SHA-512 with RSA Encryption\0" "SHA512withRSA\0" "SHA512-RSA\0" "PKCS #1 SHA-512 With RSA Encryption\0"
+    "sha512_rsa\0" "RSA-SHA224\0" "RSA-SHA2-224\0" "SHA224withRSA\0" "PKCS #1 SHA-224 With RSA Encryption\0"
+    "sha224_rsa\0" "RSA-SHA512/224\0" "sha512-224WithRSAEncryption\0" "RSA-SHA2-512/224\0" "RSA-SHA512-224\0"
+    "SHA512/224withRSA\0" "RSA-SHA512/256\0" "sha512-256WithRSAEncryption\0" "RSA-SHA2-512/256\0" "RSA-SHA512-256\0"
+    "SHA512/256withRSA\0" "pkcs3\0" "dhKeyAgreement\0" "DH\0" "DiffieHellman\0" "pkcs5\0", "pkcs-5\0" "PBE-MD2-DES\0"
+    "pbeWithMD2AndDES-CBC\0" "pbes1_md2_des\0" "PBE-MD5-DES\0" "pbeWithMD5AndDES-CBC\0" "PBEWithMD5AndDES\0"
+    "pbes1_md5_des\0" "PBE-MD2-RC2-64\0" "pbeWithMD2AndRC2-CBC\0" "pbes1_md2_rc2\0" "PBE-MD5-RC2-64\0"
+    "pbeWithMD5AndRC2-CBC\0" "PBEWithMD5AndRC2\0" "pbes1_md5_rc2\0" "PBE-SHA1-DES\0" "pbeWithSHA1AndDES-CBC\0"
+    "PBEWithSHA1AndDES\0" "pbes1_sha1_des\0" "PBE-SHA1-RC2-64\0" "pbeWithSHA1AndRC2-CBC\0" "PBEWithSHA1AndRC2\0"
+    "pbes1_sha1_rc2\0" "PBKDF2\0" "PBKDF2WithHmacSHA1\0" "PKCS #5 Password Based Key Dervive Function v2\0"
+    "id_PBKDF2\0" "PBES2\0" "id-PBES2\0" "PKCS #5 Password Based Encryption v2\0", "id_PBES2\0" "PBMAC1\0" "id-PBMAC1\0"
+    "PKCS #5 Password Based Authentication v1\0" "id_PBMAC1\0" "pkcs7\0" "pkcs-7\0" "PKCS #7\0" "pkcs7-data\0"
+    "PKCS #7 Data\0" "id_data\0" "pkcs7-signedData\0" "signedData\0" "PKCS #7 Signed Data\0" "signed_data\0"
+    "id_signedData\0" "pkcs7-envelopedData\0" "envelopedData\0" "PKCS #7 Enveloped Data\0" "enveloped_data\0"
+    "id_envelopedData\0" "pkcs7-signedAndEnvelopedData\0" "signedAndEnvelopedData\0"
+    "PKCS #7 Signed And Enveloped Data\0" "signed_and_enveloped_data\0" "pkcs7-digestData\0" "digestedData\0"
+    "PKCS #7 Digested Data\0" "digested_data\0" "id_digestedData\0" "pkcs7-encryptedData\0", "encryptedData\0"
+    "PKCS #7 Encrypted Data\0" "encrypted_data\0" "id_encryptedData\0" "pkcs9\0" "id-emailAddress\0" "pkcs9email\0"
+    "E\0" "Email Address\0" "PKCS #9 Email Address\0" "email_address\0" "unstructuredName\0" "contentType\0"
+    "PKCS #9 Content Type\0" "content_type\0" "id_contentType\0" "messageDigest\0" "PKCS #9 Message Digest\0"
+    "message_digest\0" "id_messageDigest\0" "signingTime\0" "PKCS #9 Signing Time\0" "signing_time\0" "id_signingTime\0"
+    "countersignature\0" "PKCS #9 Counter Signature\0" "counter_signature\0" "challengePassword\0"
+    "challenge_password\0" "unstructuredAddress\0", "extendedCertificateAttributes\0"
+    "extended_certificate_attributes\0" "IssuerAndSerialNumber\0" "extReq\0" "Extension Request\0" "ExtensionRequest\0"
+    "PKCS #9 Extension Request\0" "extension_request\0" "SMIME-CAPS\0" "S/MIME Capabilities\0" "SMIMECapability\0"
+    "PKCS #9 S/MIME Capabilities\0" "smime_capabilities\0" "S/MIME\0" "id-smime-mod\0" "id-smime-mod-cms\0"
+    "id-smime-mod-ess\0" "id-smime-mod-oid\0" "id-smime-mod-msg-v3\0" "id-smime-mod-ets-eSignature-88\0"
+    "id-smime-mod-ets-eSignature-97\0" "id-smime-mod-ets-eSigPolicy-88\0" "id-smime-mod-ets-eSigPolicy-97\0"
+    "id-smime-ct\0", "id-ct-anyContentType\0" "id-smime-ct-receipt\0" "receipt\0" "id-smime-ct-authData\0"
+    "AuthenticatedData\0" "authData\0" "authenticated_data\0" "id-smime-ct-publishCert\0" "id-smime-ct-TSTInfo\0"
+    "TSTInfo\0" "TimeStampTokenInfo\0" "tst_info\0" "id_ct_TSTInfo\0" "id-smime-ct-TDTInfo\0"
+    "id-smime-ct-contentInfo\0" "ContentInfo\0" "id_ct_contentInfo\0" "id-smime-ct-DVCSRequestData\0"
+    "id-smime-ct-DVCSResponseData\0" "id-smime-ct-compressedData\0" "CompressedData\0" "compressed_data\0"
+    "firmwarePackage\0" "id-smime-ct-contentCollection\0" "id-smime-ct-authEnvelopedData\0" "AuthEnvelopedData\0",
+    "authenticated_enveloped_data\0" "id-ct-routeOriginAuthz\0" "id-ct-rpkiManifest\0" "id-ct-asciiTextWithCRLF\0"
+    "id-ct-xml\0" "id-ct-pdf\0" "id-ct-postscript\0" "timestamped_data\0" "id-ct-trustAnchorList\0"
+    "id-ct-rpkiGhostbusters\0" "id-ct-resourceTaggedAttest\0" "id-ct-utf8TextWithCRLF\0" "id-ct-htmlWithCRLF\0"
+    "id-ct-epub\0" "id-ct-mudtype\0" "id-ct-cbor\0" "id-ct-cborSequence\0" "id-ct-geofeedCSVwithCRLF\0"
+    "id-ct-signedChecklist\0" "id-ct-ASPA\0" "id-ct-signedTAL\0" "id-ct-rpkiSignedPrefixList\0" "id-smime-aa\0"
+    "id-smime-aa-receiptRequest\0" "receiptRequest\0" "id-smime-aa-securityLabel\0", "securityLabel\0"
+    "id-smime-aa-mlExpandHistory\0" "mlExpandHistory\0" "id-smime-aa-contentHint\0" "contentHint\0"
+    "id-smime-aa-msgSigDigest\0" "msgSigDigest\0" "id-smime-aa-encapContentType\0" "id-smime-aa-contentIdentifier\0"
+    "contentIdentifier\0" "id-smime-aa-macValue\0" "id-smime-aa-equivalentLabels\0" "equivalentLabels\0"
+    "id-smime-aa-contentReference\0" "contentReference\0" "id-smime-aa-encrypKeyPref\0" "encrypKeyPref\0"
+    "encrypt_key_pref\0" "id-smime-aa-signingCertificate\0" "signingCertificate\0" "signing_certificate\0"
+    "id_aa_signingCertificate\0" "id-smime-aa-smimeEncryptCerts\0", "id-smime-aa-timeStampToken\0" "timeStampToken\0"
+    "id-aa-signatureTimeStampToken\0" "SignatureTimestampToken\0" "signature_time_stamp_token\0"
+    "id-smime-aa-ets-sigPolicyId\0" "id-aa-ets-sigPolicyId\0" "id-smime-aa-ets-commitmentType\0"
+    "id-aa-ets-commitmentType\0" "id-smime-aa-ets-signerLocation\0" "id-aa-ets-signerLocation\0"
+    "id-smime-aa-ets-signerAttr\0" "id-aa-ets-signerAttr\0" "id-smime-aa-ets-otherSigCert\0" "id-aa-ets-otherSigCert\0"
     "id-smime-aa-ets-contentTimestamp\0" "id-aa-ets-contentTimestamp\0" "id-smime-aa-ets-CertificateRefs\0"
-    "id-aa-ets-certificateRefs\0" "id-smime-aa-ets-RevocationRefs\0" "id-aa-ets-revocationRefs\0"
+    "id-aa-ets-certificateRefs\0", "id-smime-aa-ets-RevocationRefs\0" "id-aa-ets-revocationRefs\0"
     "id-smime-aa-ets-certValues\0" "id-aa-ets-certValues\0" "id-smime-aa-ets-revocationValues\0"
     "id-aa-ets-revocationValues\0" "id-smime-aa-ets-escTimeStamp\0" "id-aa-ets-escTimeStamp\0"
     "id-smime-aa-ets-certCRLTimestamp\0" "id-aa-ets-certCRLTimestamp\0" "id-smime-aa-ets-archiveTimeStamp\0"
-    "id-smime-aa-signatureType\0" "id-smime-aa-dvcs-dvc\0" "id-aa-ets-attrCertificateRefs\0",
-    "id-aa-ets-attrRevocationRefs\0" "id-smime-aa-signingCertificateV2\0" "signingCertificateV2\0"
-    "id-aa-ets-archiveTimestampV2\0" "id-aa-asymmDecryptKeyID\0" "id-aa-secureHeaderFieldsIdentifier\0"
-    "id-aa-otpChallenge\0" "id-aa-revocationChallenge\0" "id-aa-estIdentityLinking\0" "id-smime-alg\0"
-    "id-smime-alg-ESDHwith3DES\0" "id-smime-alg-ESDHwithRC2\0" "id-smime-alg-3DESwrap\0" "id-smime-alg-RC2wrap\0"
-    "id-smime-alg-ESDH\0" "id-smime-alg-CMS3DESwrap\0" "DES3-WRAP\0" "id-smime-alg-CMSRC2wrap\0" "ZLIB\0"
-    "zlib compression\0" "id-alg-PWRI-KEK\0" "id-rsa-kem\0" "id-alg-hss-lms-hashsig\0", "id-alg-AEADChaCha20Poly1305\0"
-    "CHACHA20-POLY1305\0" "id-alg-hkdf-with-sha256\0" "HKDF-SHA256\0" "id-alg-hkdf-with-sha384\0" "HKDF-SHA384\0"
-    "id-alg-hkdf-with-sha512\0" "HKDF-SHA512\0" "id-smime-cd\0" "id-smime-cd-ldap\0" "id-smime-spq\0"
-    "id-smime-spq-ets-sqt-uri\0" "id-smime-spq-ets-sqt-unotice\0" "id-smime-cti\0" "id-smime-cti-ets-proofOfOrigin\0"
-    "id-smime-cti-ets-proofOfReceipt\0" "id-smime-cti-ets-proofOfDelivery\0" "id-smime-cti-ets-proofOfSender\0"
-    "id-smime-cti-ets-proofOfApproval\0" "id-smime-cti-ets-proofOfCreation\0" "id-smime-ori\0" "id-smime-ori-kem\0"
-    "friendlyName\0", "PKCS #9 Friendly Name\0" "localKeyID\0" "PKCS #9 Local Key ID\0" "x509Certificate\0"
-    "CertTypeX509\0" "sdsiCertificate\0" "x509Crl\0" "id-aa-CMSAlgorithmProtection\0" "cmsAlgorithmProtect\0"
-    "id-aa-cmsAlgorithmProtect\0" "CMSAlgorithmProtection\0" "PKCS #12\0" "PBE-SHA1-RC4-128\0"
-    "pbeWithSHA1And128BitRC4\0" "PBEWithSHA1AndRC4_128\0" "PBE-SHA1-RC4-40\0" "pbeWithSHA1And40BitRC4\0"
-    "PBEWithSHA1AndRC4_40\0" "PBE-SHA1-3DES\0" "pbeWithSHA1And3-KeyTripleDES-CBC\0" "PBEWithSHA1AndDESede\0"
-    "PBE-SHA1-2DES\0" "pbeWithSHA1And2-KeyTripleDES-CBC\0" "PBE-SHA1-RC2-128\0" "pbeWithSHA1And128BitRC2-CBC\0",
-    "PBEWithSHA1AndRC2_128\0" "PBE-SHA1-RC2-40\0" "pbeWithSHA1And40BitRC2-CBC\0" "PBEWithSHA1AndRC2_40\0" "keyBag\0"
-    "id-keyBag\0" "pkcs8ShroudedKeyBag\0" "id-pkcs8ShroudedKeyBag\0" "certBag\0" "id-certBag\0" "crlBag\0" "id-CRLBag\0"
-    "secretBag\0" "id-secretBag\0" "safeContentsBag\0" "id-safeContentsBag\0" "MD2\0" "md2\0" "MD4\0" "md4\0" "MD5\0"
-    "md5\0" "SSL3-MD5\0" "hmacWithMD5\0" "hmacWithSHA1\0" "id-hmacWithSHA1\0" "HmacSHA1\0" "HMAC SHA-1\0"
-    "hmacWithSHA224\0" "HmacSHA224\0" "HMAC SHA-224\0" "HMAC-SHA224\0" "hmacWithSHA256\0" "HS256\0" "HmacSHA256\0"
-    "HMAC SHA-256\0" "HMAC-SHA256\0" "hmacWithSHA384\0" "HS384\0" "HmacSHA384\0" "HMAC SHA-384\0" "HMAC-SHA384\0",
-    "hmacWithSHA512\0" "HS512\0" "HmacSHA512\0" "HMAC SHA-512\0" "HMAC-SHA512\0" "hmacWithSHA512-224\0"
-    "id-hmacWithSHA512-224\0" "HmacSHA512/224\0" "hmacWithSHA512-256\0" "id-hmacWithSHA512-256\0" "HmacSHA512/256\0"
-    "rc2CBC\0" "RC2/CBC/PKCS5Padding\0" "RC4\0" "rc4\0" "ARCFOUR\0" "DES3\0" "DESede/CBC/NoPadding\0" "RC5-CBC\0"
-    "rc5-cbc\0" "rc5-CBC-PAD\0" "RC5/CBC/PKCS5Padding\0" "DES-CDMF\0" "des-cdmf\0" "gssapi\0" "GSS_C_NT_USER_NAME\0"
-    "GSS_KRB5_NT_USER_NAME\0" "GSS_C_NT_MACHINE_UID_NAME\0" "GSS_C_NT_STRING_UID_NAME\0" "GSS_C_NT_HOSTBASED_SERVICE\0"
-    "GSS_KRB5_NT_HOSTBASED_SERVICE_NAME\0" "krb5\0" "gss_mech_krb5\0", "GSS_KRB5_NT_PRINCIPAL_NAME\0"
-    "GSS_KRB5_NT_ENTERPRISE_NAME\0" "GSS_KRB5_NT_X509_CERT\0" "instanceType\0" "whenCreated\0" "whenChanged\0"
-    "hasMasterNCs\0" "otherTelephone\0" "uSNCreated\0" "subClassOf\0" "governsID\0" "rDNAttID\0" "attributeID\0"
-    "attributeSyntax\0" "isSingleValued\0" "isDeleted\0" "tombstoneLifetime\0" "objectVersion\0" "memberOf\0"
-    "invocationId\0" "otherPager\0" "uSNChanged\0" "department\0" "company\0" "showInAdvancedViewOnly\0"
-    "adminDisplayName\0" "proxyAddresses\0" "dSHeuristics\0" "adminDescription\0" "oMSyntax\0" "otherHomePhone\0"
-    "nTSecurityDescriptor\0" "searchFlags\0" "objectClassCategory\0" "directReports\0", "lDAPDisplayName\0"
-    "wWWHomePage\0" "crossRef\0" "container\0" "computer\0" "objectGUID\0" "userAccountControl\0" "badPwdCount\0"
-    "codePage\0" "countryCode\0" "employeeID\0" "homeDrive\0" "badPasswordTime\0" "lastLogoff\0" "lastLogon\0"
-    "dBCSPwd\0" "localeID\0" "lockoutDuration\0" "lockOutObservationWindow\0" "scriptPath\0" "logonHours\0"
-    "lockoutThreshold\0" "maxPwdAge\0" "minPwdAge\0" "minPwdLength\0" "userWorkstations\0" "nETBIOSName\0"
-    "unicodePwd\0" "pwdProperties\0" "pwdHistoryLength\0" "pwdLastSet\0" "primaryGroupID\0" "supplementalCredentials\0"
-    "trustDirection\0" "trustPartner\0" "trustType\0" "userParameters\0" "profilePath\0" "objectSid\0", "schemaIDGUID\0"
-    "adminCount\0" "comment\0" "accountExpires\0" "logonCount\0" "sAMAccountName\0" "division\0" "sAMAccountType\0"
-    "options\0" "LDAP_CONTROL_PAGEDRESULTS\0" "operatingSystem\0" "operatingSystemVersion\0"
-    "operatingSystemServicePack\0" "fSMORoleOwner\0" "systemFlags\0" "dnsRecord\0" "operatingSystemHotfix\0"
-    "LDAP_CONTROL_X_SHOW_DELETED\0" "trustAttributes\0" "LDAP_CONTROL_SORTREQUEST\0" "LDAP_CONTROL_SORTRESPONSE\0"
-    "flatName\0" "siteObject\0" "LDAP_CONTROL_X_SERVER_NOTIFICATION\0" "LDAP_CONTROL_X_EXTENDED_DN\0" "sIDHistory\0"
-    "wellKnownObjects\0" "LDAP_CONTROL_X_LAZY_COMMIT\0" "dNSHostName\0", "showInAddressBook\0"
-    "otherFacsimileTelephoneNumber\0" "otherMobile\0" "assistant\0" "managedBy\0" "managedObjects\0"
-    "legacyExchangeDN\0" "userPrincipalName\0" "lockoutTime\0" "rootTrust\0" "ipPhone\0" "otherIpPhone\0" "url\0"
-    "groupType\0" "servicePrincipalName\0" "lastKnownParent\0" "objectCategory\0" "LDAP_CONTROL_X_INCREMENTAL_VALUES\0"
-    "integerBitAndMatch\0" "LDAP_MATCHING_RULE_BIT_AND\0" "integerBitOrMatch\0" "LDAP_MATCHING_RULE_BIT_OR\0"
-    "LDAP_CONTROL_X_TREE_DELETE\0" "certificateTemplates\0" "LDAP_CONTROL_X_DIRSYNC\0" "altSecurityIdentities\0"
-    "isCriticalSystemObject\0" "uPNSuffixes\0" "gPLink\0" "gPOptions\0", "gPCFileSysPath\0" "allowedChildClasses\0"
-    "allowedChildClassesEffective\0" "allowedAttributes\0" "allowedAttributesEffective\0" "canonicalName\0"
-    "msNPAllowDialin\0" "tokenGroups\0" "tokenGroupsNoGCAcceptable\0" "sDRightsEffective\0" "pKIDefaultKeySpec\0"
-    "pKIMaxIssuingDepth\0" "pKIExtendedKeyUsage\0" "pKIDefaultCSPs\0" "LDAP_CONTROL_X_DOMAIN_SCOPE\0"
-    "LDAP_CONTROL_X_SEARCH_OPTIONS\0" "gPCMachineExtensionNames\0" "gPCUserExtensionNames\0" "otherWellKnownObjects\0"
-    "mS-DS-ConsistencyGuid\0" "mS-DS-CreatorSID\0" "ms-DS-MachineAccountQuota\0" "primaryGroupToken\0",
-    "LDAP_CONTROL_X_PERMISSIVE_MODIFY\0" "tokenGroupsGlobalAndUniversal\0" "msPKI-RA-Signature\0"
-    "msPKI-Enrollment-Flag\0" "msPKI-Certificate-Name-Flag\0" "msPKI-Minimal-Key-Size\0"
-    "msPKI-Template-Schema-Version\0" "msPKI-Cert-Template-OID\0" "msDS-Behavior-Version\0"
+    "id-smime-aa-signatureType\0" "id-smime-aa-dvcs-dvc\0" "id-aa-fwPkgMessageDigest\0"
+    "id-aa-ets-attrCertificateRefs\0" "id-aa-ets-attrRevocationRefs\0" "id-smime-aa-signingCertificateV2\0"
+    "signingCertificateV2\0", "signing_certificate_v2\0" "id_aa_signingCertificateV2\0" "id-aa-ets-archiveTimestampV2\0"
+    "id-aa-asymmDecryptKeyID\0" "id-aa-secureHeaderFieldsIdentifier\0" "id-aa-otpChallenge\0"
+    "id-aa-revocationChallenge\0" "id-aa-estIdentityLinking\0" "id-smime-alg\0" "id-smime-alg-ESDHwith3DES\0"
+    "id-smime-alg-ESDHwithRC2\0" "id-smime-alg-3DESwrap\0" "id-smime-alg-RC2wrap\0" "id-smime-alg-ESDH\0"
+    "id-smime-alg-CMS3DESwrap\0" "DES3-WRAP\0" "id-smime-alg-CMSRC2wrap\0" "ZLIB\0" "zlib compression\0"
+    "id-alg-PWRI-KEK\0" "id-alg-MD5-XOR-EXPERIMENT\0" "id-rsa-kem\0" "id-alg-hss-lms-hashsig\0",
+    "id-alg-AEADChaCha20Poly1305\0" "CHACHA20-POLY1305\0" "dhSinglePass-stdDH-hkdf-sha256-scheme\0"
+    "dhSinglePass-stdDH-hkdf-sha384-scheme\0" "dhSinglePass-stdDH-hkdf-sha512-scheme\0" "id-alg-hkdf-with-sha256\0"
+    "HKDF-SHA256\0" "id-alg-hkdf-with-sha384\0" "HKDF-SHA384\0" "id-alg-hkdf-with-sha512\0" "HKDF-SHA512\0"
+    "id-smime-cd\0" "id-smime-cd-ldap\0" "id-smime-spq\0" "id-smime-spq-ets-sqt-uri\0" "id-smime-spq-ets-sqt-unotice\0"
+    "id-smime-cti\0" "id-smime-cti-ets-proofOfOrigin\0" "id-smime-cti-ets-proofOfReceipt\0"
+    "id-smime-cti-ets-proofOfDelivery\0" "id-smime-cti-ets-proofOfSender\0", "id-smime-cti-ets-proofOfApproval\0"
+    "id-smime-cti-ets-proofOfCreation\0" "id-smime-ori\0" "id-smime-ori-kem\0" "friendlyName\0"
+    "PKCS #9 Friendly Name\0" "friendly_name\0" "localKeyID\0" "PKCS #9 Local Key ID\0" "local_key_id\0"
+    "x509Certificate\0" "CertTypeX509\0" "sdsiCertificate\0" "sdsi\0" "x509Crl\0" "id-aa-CMSAlgorithmProtection\0"
+    "cmsAlgorithmProtect\0" "id-aa-cmsAlgorithmProtect\0" "CMSAlgorithmProtection\0" "cms_algorithm_protection\0"
+    "PKCS #12\0" "PBE-SHA1-RC4-128\0" "pbeWithSHA1And128BitRC4\0" "PBEWithSHA1AndRC4_128\0" "pkcs12_sha1_rc4_128\0"
+    "PBE-SHA1-RC4-40\0" "pbeWithSHA1And40BitRC4\0", "PBEWithSHA1AndRC4_40\0" "pkcs12_sha1_rc4_40\0" "PBE-SHA1-3DES\0"
+    "pbeWithSHA1And3-KeyTripleDES-CBC\0" "PBEWithSHA1AndDESede\0" "pkcs12_sha1_tripledes_3key\0" "PBE-SHA1-2DES\0"
+    "pbeWithSHA1And2-KeyTripleDES-CBC\0" "pkcs12_sha1_tripledes_2key\0" "PBE-SHA1-RC2-128\0"
+    "pbeWithSHA1And128BitRC2-CBC\0" "PBEWithSHA1AndRC2_128\0" "pkcs12_sha1_rc2_128\0" "PBE-SHA1-RC2-40\0"
+    "pbeWithSHA1And40BitRC2-CBC\0" "PBEWithSHA1AndRC2_40\0" "pkcs12_sha1_rc2_40\0" "keyBag\0" "id-keyBag\0" "key_bag\0"
+    "pkcs8ShroudedKeyBag\0" "id-pkcs8ShroudedKeyBag\0" "pkcs8_shrouded_key_bag\0" "certBag\0" "id-certBag\0"
+    "cert_bag\0" "id_certBag\0", "crlBag\0" "id-CRLBag\0" "crl_bag\0" "secretBag\0" "id-secretBag\0" "secret_bag\0"
+    "safeContentsBag\0" "id-safeContentsBag\0" "safe_contents\0" "MD2\0" "md2\0" "MD4\0" "md4\0" "MD5\0" "md5\0"
+    "SSL3-MD5\0" "hmacWithMD5\0" "hmacWithSHA1\0" "id-hmacWithSHA1\0" "HmacSHA1\0" "HMAC SHA-1\0" "hmacWithSHA224\0"
+    "HmacSHA224\0" "HMAC SHA-224\0" "HMAC-SHA224\0" "hmacWithSHA256\0" "HS256\0" "HmacSHA256\0" "HMAC SHA-256\0"
+    "HMAC-SHA256\0" "hmacWithSHA384\0" "HS384\0" "HmacSHA384\0" "HMAC SHA-384\0" "HMAC-SHA384\0" "hmacWithSHA512\0"
+    "HS512\0" "HmacSHA512\0" "HMAC SHA-512\0" "HMAC-SHA512\0" "hmacWithSHA512-224\0" "id-hmacWithSHA512-224\0"
+    "HmacSHA512/224\0" "hmacWithSHA512-256\0", "id-hmacWithSHA512-256\0" "HmacSHA512/256\0" "encryptionAlgorithm\0"
+    "rc2CBC\0" "RC2/CBC/PKCS5Padding\0" "rc2\0" "RC4\0" "rc4\0" "ARCFOUR\0" "DES3\0" "DESede/CBC/NoPadding\0"
+    "tripledes_3key\0" "RC5-CBC\0" "rc5-cbc\0" "rc5-CBC-PAD\0" "RC5/CBC/PKCS5Padding\0" "rc5\0" "DES-CDMF\0"
+    "des-cdmf\0" "gssapi\0" "GSS_C_NT_USER_NAME\0" "GSS_KRB5_NT_USER_NAME\0" "GSS_C_NT_MACHINE_UID_NAME\0"
+    "GSS_C_NT_STRING_UID_NAME\0" "GSS_C_NT_HOSTBASED_SERVICE\0" "GSS_KRB5_NT_HOSTBASED_SERVICE_NAME\0" "krb5\0"
+    "gss_mech_krb5\0" "GSS_KRB5_NT_PRINCIPAL_NAME\0" "GSS_KRB5_NT_ENTERPRISE_NAME\0" "GSS_KRB5_NT_X509_CERT\0"
+    "krbCanonicalName\0" "krbPwdAttributes\0", "krbPwdMaxLife\0" "krbPwdMaxRenewableLife\0" "krbPwdAllowedKeysalts\0"
+    "instanceType\0" "whenCreated\0" "whenChanged\0" "hasMasterNCs\0" "otherTelephone\0" "uSNCreated\0" "subClassOf\0"
+    "governsID\0" "rDNAttID\0" "attributeID\0" "attributeSyntax\0" "isSingleValued\0" "isDeleted\0"
+    "tombstoneLifetime\0" "objectVersion\0" "memberOf\0" "invocationId\0" "otherPager\0" "uSNChanged\0" "department\0"
+    "company\0" "showInAdvancedViewOnly\0" "adminDisplayName\0" "proxyAddresses\0" "dSHeuristics\0" "adminDescription\0"
+    "oMSyntax\0" "otherHomePhone\0" "nTSecurityDescriptor\0" "searchFlags\0" "objectClassCategory\0" "directReports\0"
+    "lDAPDisplayName\0", "wWWHomePage\0" "crossRef\0" "container\0" "computer\0" "objectGUID\0" "userAccountControl\0"
+    "badPwdCount\0" "codePage\0" "countryCode\0" "employeeID\0" "homeDrive\0" "badPasswordTime\0" "lastLogoff\0"
+    "lastLogon\0" "dBCSPwd\0" "localeID\0" "lockoutDuration\0" "lockOutObservationWindow\0" "scriptPath\0"
+    "logonHours\0" "lockoutThreshold\0" "maxPwdAge\0" "minPwdAge\0" "minPwdLength\0" "userWorkstations\0"
+    "nETBIOSName\0" "unicodePwd\0" "pwdProperties\0" "pwdHistoryLength\0" "pwdLastSet\0" "primaryGroupID\0"
+    "supplementalCredentials\0" "trustDirection\0" "trustPartner\0" "trustType\0" "userParameters\0" "profilePath\0"
+    "objectSid\0" "schemaIDGUID\0", "adminCount\0" "comment\0" "accountExpires\0" "logonCount\0" "sAMAccountName\0"
+    "division\0" "sAMAccountType\0" "options\0" "LDAP_CONTROL_PAGEDRESULTS\0" "operatingSystem\0"
+    "operatingSystemVersion\0" "operatingSystemServicePack\0" "fSMORoleOwner\0" "systemFlags\0" "dnsRecord\0"
+    "operatingSystemHotfix\0" "LDAP_CONTROL_X_SHOW_DELETED\0" "trustAttributes\0" "LDAP_CONTROL_SORTREQUEST\0"
+    "LDAP_CONTROL_SORTRESPONSE\0" "flatName\0" "siteObject\0" "LDAP_CONTROL_X_SERVER_NOTIFICATION\0"
+    "LDAP_CONTROL_X_EXTENDED_DN\0" "sIDHistory\0" "wellKnownObjects\0" "LDAP_CONTROL_X_LAZY_COMMIT\0" "dNSHostName\0"
+    "showInAddressBook\0", "otherFacsimileTelephoneNumber\0" "otherMobile\0" "assistant\0" "managedBy\0"
+    "managedObjects\0" "legacyExchangeDN\0" "userPrincipalName\0" "lockoutTime\0" "rootTrust\0" "ipPhone\0"
+    "otherIpPhone\0" "url\0" "groupType\0" "servicePrincipalName\0" "lastKnownParent\0" "objectCategory\0"
+    "LDAP_CONTROL_X_INCREMENTAL_VALUES\0" "integerBitAndMatch\0" "LDAP_MATCHING_RULE_BIT_AND\0" "integerBitOrMatch\0"
+    "LDAP_MATCHING_RULE_BIT_OR\0" "LDAP_CONTROL_X_TREE_DELETE\0" "certificateTemplates\0" "LDAP_CONTROL_X_DIRSYNC\0"
+    "altSecurityIdentities\0" "isCriticalSystemObject\0" "uPNSuffixes\0" "gPLink\0" "gPOptions\0" "gPCFileSysPath\0",
+    "allowedChildClasses\0" "allowedChildClassesEffective\0" "allowedAttributes\0" "allowedAttributesEffective\0"
+    "canonicalName\0" "msNPAllowDialin\0" "tokenGroups\0" "tokenGroupsNoGCAcceptable\0" "sDRightsEffective\0"
+    "pKIDefaultKeySpec\0" "pKIMaxIssuingDepth\0" "pKIExtendedKeyUsage\0" "pKIDefaultCSPs\0"
+    "LDAP_CONTROL_X_DOMAIN_SCOPE\0" "LDAP_CONTROL_X_SEARCH_OPTIONS\0" "gPCMachineExtensionNames\0"
+    "gPCUserExtensionNames\0" "otherWellKnownObjects\0" "mS-DS-ConsistencyGuid\0" "mS-DS-CreatorSID\0"
+    "ms-DS-MachineAccountQuota\0" "primaryGroupToken\0" "LDAP_CONTROL_X_PERMISSIVE_MODIFY\0",
+    "tokenGroupsGlobalAndUniversal\0" "msPKI-RA-Signature\0" "msPKI-Enrollment-Flag\0" "msPKI-Certificate-Name-Flag\0"
+    "msPKI-Minimal-Key-Size\0" "msPKI-Template-Schema-Version\0" "msPKI-Cert-Template-OID\0" "msDS-Behavior-Version\0"
     "msDS-User-Account-Control-Computed\0" "msPKI-Certificate-Application-Policy\0" "lastLogonTimestamp\0"
     "msDS-ReplAttributeMetaData\0" "msDS-AdditionalDnsHostName\0" "msDS-KeyVersionNumber\0" "msDS-AllowedToDelegateTo\0"
-    "msDS-hasMasterNCs\0" "msDS-PrincipalName\0" "LDAP_MATCHING_RULE_TRANSITIVE_EVAL\0", "LDAP_MATCHING_RULE_IN_CHAIN\0"
-    "msDS-isGC\0" "msDS-isRODC\0" "msDS-SiteName\0" "msDS-SupportedEncryptionTypes\0"
+    "msDS-hasMasterNCs\0" "msDS-PrincipalName\0" "LDAP_MATCHING_RULE_TRANSITIVE_EVAL\0" "LDAP_MATCHING_RULE_IN_CHAIN\0"
+    "msDS-isGC\0", "msDS-isRODC\0" "msDS-SiteName\0" "msDS-SupportedEncryptionTypes\0"
     "msDS-LastSuccessfulInteractiveLogonTime\0" "msTSProfilePath\0" "msTSHomeDirectory\0" "msTSAllowLogon\0"
     "msDS-UserPasswordExpiryTimeComputed\0" "msDS-PSOApplied\0" "msDS-ResultantPSO\0" "isRecycled\0" "builtinDomain\0"
     "securityPrincipal\0" "group\0" "user\0" "contact\0" "server\0" "printQueue\0" "site\0" "trustedDomain\0" "volume\0"
     "domainDNS\0" "foreignSecurityPrincipal\0" "subnet\0" "serviceConnectionPoint\0" "groupPolicyContainer\0"
-    "pKICertificateTemplate\0" "pKIEnrollmentService\0", "msDS-ManagedServiceAccount\0" "nTDSDSA\0" "msSFU30Name\0"
-    "msSFU30NisDomain\0" "msSFU30PosixMember\0" "org\0" "ORG\0" "identified-organization\0" "gss_mech_krb5_old\0"
-    "dod\0" "DOD\0" "internet\0" "IANA\0" "iana\0" "directory\0" "Directory\0" "uidNumber\0" "gidNumber\0" "gecos\0"
-    "homeDirectory\0" "unixHomeDirectory\0" "loginShell\0" "shadowLastChange\0" "shadowMin\0" "shadowMax\0"
-    "shadowWarning\0" "shadowInactive\0" "shadowExpire\0" "shadowFlag\0" "memberUid\0" "memberNisNetgroup\0"
-    "nisNetgroupTriple\0" "ipServicePort\0" "ipServiceProtocol\0" "ipProtocolNumber\0" "oncRpcNumber\0" "ipHostNumber\0"
-    "ipNetworkNumber\0" "ipNetmaskNumber\0" "macAddress\0", "bootParameter\0" "bootFile\0" "nisMapName\0"
-    "nisMapEntry\0" "posixAccount\0" "shadowAccount\0" "posixGroup\0" "ipService\0" "ipProtocol\0" "oncRpc\0" "ipHost\0"
-    "ipNetwork\0" "nisNetgroup\0" "nisMap\0" "nisObject\0" "ieee802Device\0" "bootableDevice\0" "vendorName\0"
-    "vendorVersion\0" "LDAP_EXOP_CANCEL\0" "LDAP_CONTROL_ASSERT\0" "LDAP_CONTROL_PRE_READ\0" "LDAP_CONTROL_POST_READ\0"
-    "LDAP_FEATURE_MODIFY_INCREMENT\0" "LDAP_EXOP_TURN\0" "LDAP_TXN\0" "LDAP_CONTROL_DONTUSECOPY\0" "mgmt\0"
-    "Management\0" "mib-2\0" "system\0" "sysDescr\0" "sysObjectID\0" "sysUpTime\0" "sysContact\0" "sysName\0"
-    "sysLocation\0" "sysServices\0" "sysORLastChange\0" "sysORTable\0", "sysOREntry\0" "sysORIndex\0" "sysORID\0"
-    "sysORDescr\0" "sysORUpTime\0" "interfaces\0" "ifNumber\0" "ifTable\0" "ifEntry\0" "ifIndex\0" "ifDescr\0"
-    "ifType\0" "ifMtu\0" "ifSpeed\0" "ifPhysAddress\0" "ifAdminStatus\0" "ifOperStatus\0" "ifLastChange\0"
-    "ifInOctets\0" "ifInUcastPkts\0" "ifInNUcastPkts\0" "ifInDiscards\0" "ifInErrors\0" "ifInUnknownProtos\0"
-    "ifOutOctets\0" "ifOutUcastPkts\0" "ifOutNUcastPkts\0" "ifOutDiscards\0" "ifOutErrors\0" "ifOutQLen\0"
-    "ifSpecific\0" "at\0" "atTable\0" "atEntry\0" "atIfIndex\0" "atPhysAddress\0" "atNetAddress\0" "ip\0"
-    "ipForwarding\0" "ipDefaultTTL\0" "ipInReceives\0" "ipInHdrErrors\0" "ipInAddrErrors\0" "ipForwDatagrams\0",
-    "ipInUnknownProtos\0" "ipInDiscards\0" "ipInDelivers\0" "ipOutRequests\0" "ipOutDiscards\0" "ipOutNoRoutes\0"
-    "ipReasmTimeout\0" "ipReasmReqds\0" "ipReasmOKs\0" "ipReasmFails\0" "ipFragOKs\0" "ipFragFails\0" "ipFragCreates\0"
-    "ipAddrTable\0" "ipAddrEntry\0" "ipAdEntAddr\0" "ipAdEntIfIndex\0" "ipAdEntNetMask\0" "ipAdEntBcastAddr\0"
-    "ipAdEntReasmMaxSize\0" "ipRouteTable\0" "ipRouteEntry\0" "ipRouteDest\0" "ipRouteIfIndex\0" "ipRouteMetric1\0"
-    "ipRouteMetric2\0" "ipRouteMetric3\0" "ipRouteMetric4\0" "ipRouteNextHop\0" "ipRouteType\0" "ipRouteProto\0"
-    "ipRouteAge\0" "ipRouteMask\0" "ipRouteMetric5\0" "ipRouteInfo\0" "ipNetToMediaTable\0", "ipNetToMediaEntry\0"
-    "ipNetToMediaIfIndex\0" "ipNetToMediaPhysAddress\0" "ipNetToMediaNetAddress\0" "ipNetToMediaType\0"
-    "ipRoutingDiscards\0" "ipForward\0" "ipForwardNumber\0" "ipForwardTable\0" "ipForwardEntry\0" "ipForwardDest\0"
-    "ipForwardMask\0" "ipForwardPolicy\0" "ipForwardNextHop\0" "ipForwardIfIndex\0" "ipForwardType\0" "ipForwardProto\0"
-    "ipForwardAge\0" "ipForwardInfo\0" "ipForwardNextHopAS\0" "ipForwardMetric1\0" "ipForwardMetric2\0"
-    "ipForwardMetric3\0" "ipForwardMetric4\0" "ipForwardMetric5\0" "ipCidrRouteNumber\0" "ipCidrRouteTable\0"
-    "ipCidrRouteEntry\0" "ipCidrRouteDest\0" "ipCidrRouteMask\0", "ipCidrRouteTos\0" "ipCidrRouteNextHop\0"
-    "ipCidrRouteIfIndex\0" "ipCidrRouteType\0" "ipCidrRouteProto\0" "ipCidrRouteAge\0" "ipCidrRouteInfo\0"
-    "ipCidrRouteNextHopAS\0" "ipCidrRouteMetric1\0" "ipCidrRouteMetric2\0" "ipCidrRouteMetric3\0" "ipCidrRouteMetric4\0"
-    "ipCidrRouteMetric5\0" "ipCidrRouteStatus\0" "inetCidrRouteNumber\0" "inetCidrRouteTable\0" "inetCidrRouteEntry\0"
-    "inetCidrRouteDestType\0" "inetCidrRouteDest\0" "inetCidrRoutePfxLen\0" "inetCidrRoutePolicy\0"
-    "inetCidrRouteNextHopType\0" "inetCidrRouteNextHop\0" "inetCidrRouteIfIndex\0" "inetCidrRouteType\0"
-    "inetCidrRouteProto\0", "inetCidrRouteAge\0" "inetCidrRouteNextHopAS\0" "inetCidrRouteMetric1\0"
-    "inetCidrRouteMetric2\0" "inetCidrRouteMetric3\0" "inetCidrRouteMetric4\0" "inetCidrRouteMetric5\0"
-    "inetCidrRouteStatus\0" "inetCidrRouteDiscards\0" "ipv6IpForwarding\0" "ipv6IpDefaultHopLimit\0"
-    "ipv4InterfaceTableLastChange\0" "ipv4InterfaceTable\0" "ipv4InterfaceEntry\0" "ipv4InterfaceIfIndex\0"
-    "ipv4InterfaceReasmMaxSize\0" "ipv4InterfaceEnableStatus\0" "ipv4InterfaceRetransmitTime\0"
+    "pKICertificateTemplate\0" "pKIEnrollmentService\0" "msDS-ManagedServiceAccount\0" "nTDSDSA\0" "msSFU30Name\0",
+    "msSFU30NisDomain\0" "msSFU30PosixMember\0" "pdf_signing\0" "adobe_revocation_info_archival\0" "adobe_timestamp\0"
+    "adobe_archive_rev_info\0" "adobe_ppklite_credential\0" "apple_x509_basic\0" "apple_ssl\0" "apple_local_cert_gen\0"
+    "apple_csr_gen\0" "apple_revocation_crl\0" "apple_revocation_ocsp\0" "apple_smime\0" "apple_eap\0"
+    "apple_software_update_signing\0" "apple_ipsec\0" "apple_ichat\0" "apple_resource_signing\0" "apple_pkinit_client\0"
+    "apple_pkinit_server\0" "apple_code_signing\0" "apple_package_signing\0" "apple_id_validation\0"
+    "apple_time_stamping\0" "apple_revocation\0" "apple_passbook_signing\0", "apple_mobile_store\0"
+    "apple_escrow_service\0" "apple_profile_signer\0" "apple_qa_profile_signer\0" "apple_test_mobile_store\0"
+    "apple_otapki_signer\0" "apple_test_otapki_signer\0" "apple_server_authentication\0" "apple_pcs_escrow_service\0"
+    "org\0" "ORG\0" "identified-organization\0" "gss_mech_krb5_old\0" "dod\0" "DOD\0" "internet\0" "IANA\0" "iana\0"
+    "directory\0" "Directory\0" "uidNumber\0" "gidNumber\0" "gecos\0" "homeDirectory\0" "unixHomeDirectory\0"
+    "loginShell\0" "shadowLastChange\0" "shadowMin\0" "shadowMax\0" "shadowWarning\0" "shadowInactive\0"
+    "shadowExpire\0" "shadowFlag\0" "memberUid\0" "memberNisNetgroup\0" "nisNetgroupTriple\0", "ipServicePort\0"
+    "ipServiceProtocol\0" "ipProtocolNumber\0" "oncRpcNumber\0" "ipHostNumber\0" "ipNetworkNumber\0" "ipNetmaskNumber\0"
+    "macAddress\0" "bootParameter\0" "bootFile\0" "nisMapName\0" "nisMapEntry\0" "automountMapName\0" "automountKey\0"
+    "automountInformation\0" "posixAccount\0" "shadowAccount\0" "posixGroup\0" "ipService\0" "ipProtocol\0" "oncRpc\0"
+    "ipHost\0" "ipNetwork\0" "nisNetgroup\0" "nisMap\0" "nisObject\0" "ieee802Device\0" "bootableDevice\0"
+    "automountMap\0" "automount\0" "vendorName\0" "vendorVersion\0" "LDAP_EXOP_CANCEL\0" "LDAP_CONTROL_ASSERT\0"
+    "LDAP_CONTROL_PRE_READ\0" "LDAP_CONTROL_POST_READ\0", "LDAP_FEATURE_MODIFY_INCREMENT\0" "LDAP_EXOP_TURN\0"
+    "LDAP_TXN\0" "LDAP_CONTROL_DONTUSECOPY\0" "mgmt\0" "Management\0" "mib-2\0" "system\0" "sysDescr\0" "sysObjectID\0"
+    "sysUpTime\0" "sysUpTimeInstance\0" "sysContact\0" "sysName\0" "sysLocation\0" "sysServices\0" "sysORLastChange\0"
+    "sysORTable\0" "sysOREntry\0" "sysORIndex\0" "sysORID\0" "sysORDescr\0" "sysORUpTime\0" "interfaces\0" "ifNumber\0"
+    "ifTable\0" "ifEntry\0" "ifIndex\0" "ifDescr\0" "ifType\0" "ifMtu\0" "ifSpeed\0" "ifPhysAddress\0" "ifAdminStatus\0"
+    "ifOperStatus\0" "ifLastChange\0" "ifInOctets\0" "ifInUcastPkts\0" "ifInNUcastPkts\0" "ifInDiscards\0"
+    "ifInErrors\0" "ifInUnknownProtos\0" "ifOutOctets\0", "ifOutUcastPkts\0" "ifOutNUcastPkts\0" "ifOutDiscards\0"
+    "ifOutErrors\0" "ifOutQLen\0" "ifSpecific\0" "at\0" "atTable\0" "atEntry\0" "atIfIndex\0" "atPhysAddress\0"
+    "atNetAddress\0" "ip\0" "ipForwarding\0" "ipDefaultTTL\0" "ipInReceives\0" "ipInHdrErrors\0" "ipInAddrErrors\0"
+    "ipForwDatagrams\0" "ipInUnknownProtos\0" "ipInDiscards\0" "ipInDelivers\0" "ipOutRequests\0" "ipOutDiscards\0"
+    "ipOutNoRoutes\0" "ipReasmTimeout\0" "ipReasmReqds\0" "ipReasmOKs\0" "ipReasmFails\0" "ipFragOKs\0" "ipFragFails\0"
+    "ipFragCreates\0" "ipAddrTable\0" "ipAddrEntry\0" "ipAdEntAddr\0" "ipAdEntIfIndex\0" "ipAdEntNetMask\0"
+    "ipAdEntBcastAddr\0" "ipAdEntReasmMaxSize\0", "ipRouteTable\0" "ipRouteEntry\0" "ipRouteDest\0" "ipRouteIfIndex\0"
+    "ipRouteMetric1\0" "ipRouteMetric2\0" "ipRouteMetric3\0" "ipRouteMetric4\0" "ipRouteNextHop\0" "ipRouteType\0"
+    "ipRouteProto\0" "ipRouteAge\0" "ipRouteMask\0" "ipRouteMetric5\0" "ipRouteInfo\0" "ipNetToMediaTable\0"
+    "ipNetToMediaEntry\0" "ipNetToMediaIfIndex\0" "ipNetToMediaPhysAddress\0" "ipNetToMediaNetAddress\0"
+    "ipNetToMediaType\0" "ipRoutingDiscards\0" "ipForward\0" "ipForwardNumber\0" "ipForwardTable\0" "ipForwardEntry\0"
+    "ipForwardDest\0" "ipForwardMask\0" "ipForwardPolicy\0" "ipForwardNextHop\0" "ipForwardIfIndex\0" "ipForwardType\0"
+    "ipForwardProto\0", "ipForwardAge\0" "ipForwardInfo\0" "ipForwardNextHopAS\0" "ipForwardMetric1\0"
+    "ipForwardMetric2\0" "ipForwardMetric3\0" "ipForwardMetric4\0" "ipForwardMetric5\0" "ipCidrRouteNumber\0"
+    "ipCidrRouteTable\0" "ipCidrRouteEntry\0" "ipCidrRouteDest\0" "ipCidrRouteMask\0" "ipCidrRouteTos\0"
+    "ipCidrRouteNextHop\0" "ipCidrRouteIfIndex\0" "ipCidrRouteType\0" "ipCidrRouteProto\0" "ipCidrRouteAge\0"
+    "ipCidrRouteInfo\0" "ipCidrRouteNextHopAS\0" "ipCidrRouteMetric1\0" "ipCidrRouteMetric2\0" "ipCidrRouteMetric3\0"
+    "ipCidrRouteMetric4\0" "ipCidrRouteMetric5\0" "ipCidrRouteStatus\0" "inetCidrRouteNumber\0" "inetCidrRouteTable\0",
+    "inetCidrRouteEntry\0" "inetCidrRouteDestType\0" "inetCidrRouteDest\0" "inetCidrRoutePfxLen\0"
+    "inetCidrRoutePolicy\0" "inetCidrRouteNextHopType\0" "inetCidrRouteNextHop\0" "inetCidrRouteIfIndex\0"
+    "inetCidrRouteType\0" "inetCidrRouteProto\0" "inetCidrRouteAge\0" "inetCidrRouteNextHopAS\0"
+    "inetCidrRouteMetric1\0" "inetCidrRouteMetric2\0" "inetCidrRouteMetric3\0" "inetCidrRouteMetric4\0"
+    "inetCidrRouteMetric5\0" "inetCidrRouteStatus\0" "inetCidrRouteDiscards\0" "ipv6IpForwarding\0"
+    "ipv6IpDefaultHopLimit\0" "ipv4InterfaceTableLastChange\0" "ipv4InterfaceTable\0" "ipv4InterfaceEntry\0",
+    "ipv4InterfaceIfIndex\0" "ipv4InterfaceReasmMaxSize\0" "ipv4InterfaceEnableStatus\0" "ipv4InterfaceRetransmitTime\0"
     "ipv6InterfaceTableLastChange\0" "ipv6InterfaceTable\0" "ipv6InterfaceEntry\0" "ipv6InterfaceIfIndex\0"
-    "ipv6InterfaceReasmMaxSize\0", "ipv6InterfaceIdentifier\0" "ipv6InterfaceEnableStatus\0"
+    "ipv6InterfaceReasmMaxSize\0" "ipv6InterfaceIdentifier\0" "ipv6InterfaceEnableStatus\0"
     "ipv6InterfaceReachableTime\0" "ipv6InterfaceRetransmitTime\0" "ipv6InterfaceForwarding\0" "ipTrafficStats\0"
     "ipSystemStatsTable\0" "ipSystemStatsEntry\0" "ipSystemStatsIPVersion\0" "ipSystemStatsInReceives\0"
-    "ipSystemStatsHCInReceives\0" "ipSystemStatsInOctets\0" "ipSystemStatsHCInOctets\0" "ipSystemStatsInHdrErrors\0"
+    "ipSystemStatsHCInReceives\0" "ipSystemStatsInOctets\0", "ipSystemStatsHCInOctets\0" "ipSystemStatsInHdrErrors\0"
     "ipSystemStatsInNoRoutes\0" "ipSystemStatsInAddrErrors\0" "ipSystemStatsInUnknownProtos\0"
-    "ipSystemStatsInTruncatedPkts\0" "ipSystemStatsInForwDatagrams\0" "ipSystemStatsHCInForwDatagrams\0",
+    "ipSystemStatsInTruncatedPkts\0" "ipSystemStatsInForwDatagrams\0" "ipSystemStatsHCInForwDatagrams\0"
     "ipSystemStatsReasmReqds\0" "ipSystemStatsReasmOKs\0" "ipSystemStatsReasmFails\0" "ipSystemStatsInDiscards\0"
     "ipSystemStatsInDelivers\0" "ipSystemStatsHCInDelivers\0" "ipSystemStatsOutRequests\0"
     "ipSystemStatsHCOutRequests\0" "ipSystemStatsOutNoRoutes\0" "ipSystemStatsOutForwDatagrams\0"
-    "ipSystemStatsHCOutForwDatagrams\0" "ipSystemStatsOutDiscards\0" "ipSystemStatsOutFragReqds\0"
+    "ipSystemStatsHCOutForwDatagrams\0", "ipSystemStatsOutDiscards\0" "ipSystemStatsOutFragReqds\0"
     "ipSystemStatsOutFragOKs\0" "ipSystemStatsOutFragFails\0" "ipSystemStatsOutFragCreates\0"
-    "ipSystemStatsOutTransmits\0" "ipSystemStatsHCOutTransmits\0" "ipSystemStatsOutOctets\0",
+    "ipSystemStatsOutTransmits\0" "ipSystemStatsHCOutTransmits\0" "ipSystemStatsOutOctets\0"
     "ipSystemStatsHCOutOctets\0" "ipSystemStatsInMcastPkts\0" "ipSystemStatsHCInMcastPkts\0"
     "ipSystemStatsInMcastOctets\0" "ipSystemStatsHCInMcastOctets\0" "ipSystemStatsOutMcastPkts\0"
     "ipSystemStatsHCOutMcastPkts\0" "ipSystemStatsOutMcastOctets\0" "ipSystemStatsHCOutMcastOctets\0"
-    "ipSystemStatsInBcastPkts\0" "ipSystemStatsHCInBcastPkts\0" "ipSystemStatsOutBcastPkts\0"
+    "ipSystemStatsInBcastPkts\0" "ipSystemStatsHCInBcastPkts\0", "ipSystemStatsOutBcastPkts\0"
     "ipSystemStatsHCOutBcastPkts\0" "ipSystemStatsDiscontinuityTime\0" "ipSystemStatsRefreshRate\0"
-    "ipIfStatsTableLastChange\0" "ipIfStatsTable\0" "ipIfStatsEntry\0" "ipIfStatsIPVersion\0" "ipIfStatsIfIndex\0",
+    "ipIfStatsTableLastChange\0" "ipIfStatsTable\0" "ipIfStatsEntry\0" "ipIfStatsIPVersion\0" "ipIfStatsIfIndex\0"
     "ipIfStatsInReceives\0" "ipIfStatsHCInReceives\0" "ipIfStatsInOctets\0" "ipIfStatsHCInOctets\0"
     "ipIfStatsInHdrErrors\0" "ipIfStatsInNoRoutes\0" "ipIfStatsInAddrErrors\0" "ipIfStatsInUnknownProtos\0"
     "ipIfStatsInTruncatedPkts\0" "ipIfStatsInForwDatagrams\0" "ipIfStatsHCInForwDatagrams\0" "ipIfStatsReasmReqds\0"
-    "ipIfStatsReasmOKs\0" "ipIfStatsReasmFails\0" "ipIfStatsInDiscards\0" "ipIfStatsInDelivers\0"
+    "ipIfStatsReasmOKs\0" "ipIfStatsReasmFails\0", "ipIfStatsInDiscards\0" "ipIfStatsInDelivers\0"
     "ipIfStatsHCInDelivers\0" "ipIfStatsOutRequests\0" "ipIfStatsHCOutRequests\0" "ipIfStatsOutForwDatagrams\0"
-    "ipIfStatsHCOutForwDatagrams\0" "ipIfStatsOutDiscards\0" "ipIfStatsOutFragReqds\0", "ipIfStatsOutFragOKs\0"
+    "ipIfStatsHCOutForwDatagrams\0" "ipIfStatsOutDiscards\0" "ipIfStatsOutFragReqds\0" "ipIfStatsOutFragOKs\0"
     "ipIfStatsOutFragFails\0" "ipIfStatsOutFragCreates\0" "ipIfStatsOutTransmits\0" "ipIfStatsHCOutTransmits\0"
     "ipIfStatsOutOctets\0" "ipIfStatsHCOutOctets\0" "ipIfStatsInMcastPkts\0" "ipIfStatsHCInMcastPkts\0"
-    "ipIfStatsInMcastOctets\0" "ipIfStatsHCInMcastOctets\0" "ipIfStatsOutMcastPkts\0" "ipIfStatsHCOutMcastPkts\0"
+    "ipIfStatsInMcastOctets\0" "ipIfStatsHCInMcastOctets\0" "ipIfStatsOutMcastPkts\0" "ipIfStatsHCOutMcastPkts\0",
     "ipIfStatsOutMcastOctets\0" "ipIfStatsHCOutMcastOctets\0" "ipIfStatsInBcastPkts\0" "ipIfStatsHCInBcastPkts\0"
     "ipIfStatsOutBcastPkts\0" "ipIfStatsHCOutBcastPkts\0" "ipIfStatsDiscontinuityTime\0" "ipIfStatsRefreshRate\0"
-    "ipAddressPrefixTable\0", "ipAddressPrefixEntry\0" "ipAddressPrefixIfIndex\0" "ipAddressPrefixType\0"
+    "ipAddressPrefixTable\0" "ipAddressPrefixEntry\0" "ipAddressPrefixIfIndex\0" "ipAddressPrefixType\0"
     "ipAddressPrefixPrefix\0" "ipAddressPrefixLength\0" "ipAddressPrefixOrigin\0" "ipAddressPrefixOnLinkFlag\0"
     "ipAddressPrefixAutonomousFlag\0" "ipAddressPrefixAdvPreferredLifetime\0" "ipAddressPrefixAdvValidLifetime\0"
-    "ipAddressSpinLock\0" "ipAddressTable\0" "ipAddressEntry\0" "ipAddressAddrType\0" "ipAddressAddr\0"
+    "ipAddressSpinLock\0" "ipAddressTable\0", "ipAddressEntry\0" "ipAddressAddrType\0" "ipAddressAddr\0"
     "ipAddressIfIndex\0" "ipAddressType\0" "ipAddressPrefix\0" "ipAddressOrigin\0" "ipAddressStatus\0"
-    "ipAddressCreated\0" "ipAddressLastChanged\0" "ipAddressRowStatus\0" "ipAddressStorageType\0",
+    "ipAddressCreated\0" "ipAddressLastChanged\0" "ipAddressRowStatus\0" "ipAddressStorageType\0"
     "ipNetToPhysicalTable\0" "ipNetToPhysicalEntry\0" "ipNetToPhysicalIfIndex\0" "ipNetToPhysicalNetAddressType\0"
     "ipNetToPhysicalNetAddress\0" "ipNetToPhysicalPhysAddress\0" "ipNetToPhysicalLastUpdated\0" "ipNetToPhysicalType\0"
-    "ipNetToPhysicalState\0" "ipNetToPhysicalRowStatus\0" "ipv6ScopeZoneIndexTable\0" "ipv6ScopeZoneIndexEntry\0"
+    "ipNetToPhysicalState\0" "ipNetToPhysicalRowStatus\0" "ipv6ScopeZoneIndexTable\0" "ipv6ScopeZoneIndexEntry\0",
     "ipv6ScopeZoneIndexIfIndex\0" "ipv6ScopeZoneIndexLinkLocal\0" "ipv6ScopeZoneIndex3\0"
     "ipv6ScopeZoneIndexAdminLocal\0" "ipv6ScopeZoneIndexSiteLocal\0" "ipv6ScopeZoneIndex6\0" "ipv6ScopeZoneIndex7\0"
-    "ipv6ScopeZoneIndexOrganizationLocal\0", "ipv6ScopeZoneIndex9\0" "ipv6ScopeZoneIndexA\0" "ipv6ScopeZoneIndexB\0"
+    "ipv6ScopeZoneIndexOrganizationLocal\0" "ipv6ScopeZoneIndex9\0" "ipv6ScopeZoneIndexA\0" "ipv6ScopeZoneIndexB\0"
     "ipv6ScopeZoneIndexC\0" "ipv6ScopeZoneIndexD\0" "ipDefaultRouterTable\0" "ipDefaultRouterEntry\0"
     "ipDefaultRouterAddressType\0" "ipDefaultRouterAddress\0" "ipDefaultRouterIfIndex\0" "ipDefaultRouterLifetime\0"
-    "ipDefaultRouterPreference\0" "ipv6RouterAdvertSpinLock\0" "ipv6RouterAdvertTable\0" "ipv6RouterAdvertEntry\0"
+    "ipDefaultRouterPreference\0" "ipv6RouterAdvertSpinLock\0", "ipv6RouterAdvertTable\0" "ipv6RouterAdvertEntry\0"
     "ipv6RouterAdvertIfIndex\0" "ipv6RouterAdvertSendAdverts\0" "ipv6RouterAdvertMaxInterval\0"
-    "ipv6RouterAdvertMinInterval\0" "ipv6RouterAdvertManagedFlag\0" "ipv6RouterAdvertOtherConfigFlag\0",
+    "ipv6RouterAdvertMinInterval\0" "ipv6RouterAdvertManagedFlag\0" "ipv6RouterAdvertOtherConfigFlag\0"
     "ipv6RouterAdvertLinkMTU\0" "ipv6RouterAdvertReachableTime\0" "ipv6RouterAdvertRetransmitTime\0"
     "ipv6RouterAdvertCurHopLimit\0" "ipv6RouterAdvertDefaultLifetime\0" "ipv6RouterAdvertRowStatus\0" "icmp\0"
     "icmpInMsgs\0" "icmpInErrors\0" "icmpInDestUnreachs\0" "icmpInTimeExcds\0" "icmpInParmProbs\0" "icmpInSrcQuenchs\0"
-    "icmpInRedirects\0" "icmpInEchos\0" "icmpInEchoReps\0" "icmpInTimestamps\0" "icmpInTimestampReps\0"
+    "icmpInRedirects\0" "icmpInEchos\0", "icmpInEchoReps\0" "icmpInTimestamps\0" "icmpInTimestampReps\0"
     "icmpInAddrMasks\0" "icmpInAddrMaskReps\0" "icmpOutMsgs\0" "icmpOutErrors\0" "icmpOutDestUnreachs\0"
-    "icmpOutTimeExcds\0" "icmpOutParmProbs\0" "icmpOutSrcQuenchs\0" "icmpOutRedirects\0", "icmpOutEchos\0"
+    "icmpOutTimeExcds\0" "icmpOutParmProbs\0" "icmpOutSrcQuenchs\0" "icmpOutRedirects\0" "icmpOutEchos\0"
     "icmpOutEchoReps\0" "icmpOutTimestamps\0" "icmpOutTimestampReps\0" "icmpOutAddrMasks\0" "icmpOutAddrMaskReps\0"
     "icmpStatsTable\0" "icmpStatsEntry\0" "icmpStatsIPVersion\0" "icmpStatsInMsgs\0" "icmpStatsInErrors\0"
     "icmpStatsOutMsgs\0" "icmpStatsOutErrors\0" "icmpMsgStatsTable\0" "icmpMsgStatsEntry\0" "icmpMsgStatsIPVersion\0"
-    "icmpMsgStatsType\0" "icmpMsgStatsInPkts\0" "icmpMsgStatsOutPkts\0" "tcp\0" "tcpRtoAlgorithm\0" "tcpRtoMin\0"
+    "icmpMsgStatsType\0", "icmpMsgStatsInPkts\0" "icmpMsgStatsOutPkts\0" "tcp\0" "tcpRtoAlgorithm\0" "tcpRtoMin\0"
     "tcpRtoMax\0" "tcpMaxConn\0" "tcpActiveOpens\0" "tcpPassiveOpens\0" "tcpAttemptFails\0" "tcpEstabResets\0"
-    "tcpCurrEstab\0" "tcpInSegs\0" "tcpOutSegs\0" "tcpRetransSegs\0", "tcpConnTable\0" "tcpConnEntry\0" "tcpConnState\0"
+    "tcpCurrEstab\0" "tcpInSegs\0" "tcpOutSegs\0" "tcpRetransSegs\0" "tcpConnTable\0" "tcpConnEntry\0" "tcpConnState\0"
     "tcpConnLocalAddress\0" "tcpConnLocalPort\0" "tcpConnRemAddress\0" "tcpConnRemPort\0" "tcpInErrs\0" "tcpOutRsts\0"
     "tcpHCInSegs\0" "tcpHCOutSegs\0" "tcpConnectionTable\0" "tcpConnectionEntry\0" "tcpConnectionLocalAddressType\0"
-    "tcpConnectionLocalAddress\0" "tcpConnectionLocalPort\0" "tcpConnectionRemAddressType\0" "tcpConnectionRemAddress\0"
-    "tcpConnectionRemPort\0" "tcpConnectionState\0" "tcpConnectionProcess\0" "tcpListenerTable\0" "tcpListenerEntry\0"
-    "tcpListenerLocalAddressType\0" "tcpListenerLocalAddress\0" "tcpListenerLocalPort\0", "tcpListenerProcess\0" "udp\0"
-    "udpInDatagrams\0" "udpNoPorts\0" "udpInErrors\0" "udpOutDatagrams\0" "udpTable\0" "udpEntry\0" "udpLocalAddress\0"
-    "udpLocalPort\0" "udpEndpointTable\0" "udpEndpointEntry\0" "udpEndpointLocalAddressType\0"
-    "udpEndpointLocalAddress\0" "udpEndpointLocalPort\0" "udpEndpointRemoteAddressType\0" "udpEndpointRemoteAddress\0"
-    "udpEndpointRemotePort\0" "udpEndpointInstance\0" "udpEndpointProcess\0" "udpHCInDatagrams\0" "udpHCOutDatagrams\0"
-    "egp\0" "egpInMsgs\0" "egpInErrors\0" "egpOutMsgs\0" "egpOutErrors\0" "egpNeighTable\0" "egpNeighEntry\0"
-    "egpNeighState\0" "egpNeighAddr\0" "egpNeighAs\0", "egpNeighInMsgs\0" "egpNeighInErrs\0" "egpNeighOutMsgs\0"
-    "egpNeighOutErrs\0" "egpNeighInErrMsgs\0" "egpNeighOutErrMsgs\0" "egpNeighStateUps\0" "egpNeighStateDowns\0"
-    "egpNeighIntervalHello\0" "egpNeighIntervalPoll\0" "egpNeighMode\0" "egpNeighEventTrigger\0" "egpAs\0"
-    "transmission\0" "dot3\0" "dot3StatsTable\0" "dot3StatsEntry\0" "dot3StatsIndex\0" "dot3StatsAlignmentErrors\0"
-    "dot3StatsFCSErrors\0" "dot3StatsSingleCollisionFrames\0" "dot3StatsMultipleCollisionFrames\0"
-    "dot3StatsSQETestErrors\0" "dot3StatsDeferredTransmissions\0" "dot3StatsLateCollisions\0"
-    "dot3StatsExcessiveCollisions\0", "dot3StatsInternalMacTransmitErrors\0" "dot3StatsCarrierSenseErrors\0"
-    "dot3StatsFrameTooLongs\0" "dot3StatsInternalMacReceiveErrors\0" "dot3StatsEtherChipSet\0" "dot3StatsSymbolErrors\0"
-    "dot3StatsDuplexStatus\0" "dot3StatsRateControlAbility\0" "dot3StatsRateControlStatus\0" "dot3CollTable\0"
-    "dot3CollEntry\0" "dot3CollCount\0" "dot3CollFrequencies\0" "dot3Tests\0" "dot3TestTdr\0" "dot3TestLoopBack\0"
-    "dot3Errors\0" "dot3ErrorInitError\0" "dot3ErrorLoopbackError\0" "dot3ControlTable\0" "dot3ControlEntry\0"
-    "dot3ControlFunctionsSupported\0" "dot3ControlInUnknownOpcodes\0", "dot3HCControlInUnknownOpcodes\0"
-    "dot3PauseTable\0" "dot3PauseEntry\0" "dot3PauseAdminMode\0" "dot3PauseOperMode\0" "dot3InPauseFrames\0"
-    "dot3OutPauseFrames\0" "dot3HCInPauseFrames\0" "dot3HCOutPauseFrames\0" "dot3HCStatsTable\0" "dot3HCStatsEntry\0"
-    "dot3HCStatsAlignmentErrors\0" "dot3HCStatsFCSErrors\0" "dot3HCStatsInternalMacTransmitErrors\0"
-    "dot3HCStatsFrameTooLongs\0" "dot3HCStatsInternalMacReceiveErrors\0" "dot3HCStatsSymbolErrors\0" "snmp\0"
-    "snmpInPkts\0" "snmpOutPkts\0" "snmpInBadVersions\0" "snmpInBadCommunityNames\0" "snmpInBadCommunityUses\0"
-    "snmpInASNParseErrs\0" "snmpInTooBigs\0", "snmpInNoSuchNames\0" "snmpInBadValues\0" "snmpInReadOnlys\0"
-    "snmpInGenErrs\0" "snmpInTotalReqVars\0" "snmpInTotalSetVars\0" "snmpInGetRequests\0" "snmpInGetNexts\0"
-    "snmpInSetRequests\0" "snmpInGetResponses\0" "snmpInTraps\0" "snmpOutTooBigs\0" "snmpOutNoSuchNames\0"
-    "snmpOutBadValues\0" "snmpOutGenErrs\0" "snmpOutGetRequests\0" "snmpOutGetNexts\0" "snmpOutSetRequests\0"
-    "snmpOutGetResponses\0" "snmpOutTraps\0" "snmpEnableAuthenTraps\0" "snmpSilentDrops\0" "snmpProxyDrops\0"
-    "dot1dBridge\0" "dot1dNotifications\0" "newRoot\0" "topologyChange\0" "dot1dBase\0" "dot1dBaseBridgeAddress\0"
-    "dot1dBaseNumPorts\0" "dot1dBaseType\0", "dot1dBasePortTable\0" "dot1dBasePortEntry\0" "dot1dBasePort\0"
-    "dot1dBasePortIfIndex\0" "dot1dBasePortCircuit\0" "dot1dBasePortDelayExceededDiscards\0"
-    "dot1dBasePortMtuExceededDiscards\0" "dot1dStp\0" "dot1dStpProtocolSpecification\0" "dot1dStpPriority\0"
-    "dot1dStpTimeSinceTopologyChange\0" "dot1dStpTopChanges\0" "dot1dStpDesignatedRoot\0" "dot1dStpRootCost\0"
-    "dot1dStpRootPort\0" "dot1dStpMaxAge\0" "dot1dStpHelloTime\0" "dot1dStpHoldTime\0" "dot1dStpForwardDelay\0"
-    "dot1dStpBridgeMaxAge\0" "dot1dStpBridgeHelloTime\0" "dot1dStpBridgeForwardDelay\0" "dot1dStpPortTable\0"
-    "dot1dStpPortEntry\0", "dot1dStpPort\0" "dot1dStpPortPriority\0" "dot1dStpPortState\0" "dot1dStpPortEnable\0"
-    "dot1dStpPortPathCost\0" "dot1dStpPortDesignatedRoot\0" "dot1dStpPortDesignatedCost\0"
-    "dot1dStpPortDesignatedBridge\0" "dot1dStpPortDesignatedPort\0" "dot1dStpPortForwardTransitions\0"
-    "dot1dStpPortPathCost32\0" "dot1dSr\0" "dot1dTp\0" "dot1dTpLearnedEntryDiscards\0" "dot1dTpAgingTime\0"
-    "dot1dTpFdbTable\0" "dot1dTpFdbEntry\0" "dot1dTpFdbAddress\0" "dot1dTpFdbPort\0" "dot1dTpFdbStatus\0"
-    "dot1dTpPortTable\0" "dot1dTpPortEntry\0" "dot1dTpPort\0" "dot1dTpPortMaxInfo\0" "dot1dTpPortInFrames\0"
-    "dot1dTpPortOutFrames\0", "dot1dTpPortInDiscards\0" "dot1dStatic\0" "dot1dStaticTable\0" "dot1dStaticEntry\0"
-    "dot1dStaticAddress\0" "dot1dStaticReceivePort\0" "dot1dStaticAllowedToGoTo\0" "dot1dStaticStatus\0" "qBridgeMIB\0"
-    "qBridgeMIBObjects\0" "dot1qBase\0" "dot1qVlanVersionNumber\0" "dot1qMaxVlanId\0" "dot1qMaxSupportedVlans\0"
-    "dot1qNumVlans\0" "dot1qGvrpStatus\0" "dot1qTp\0" "dot1qFdbTable\0" "dot1qFdbEntry\0" "dot1qFdbId\0"
-    "dot1qFdbDynamicCount\0" "dot1qTpFdbTable\0" "dot1qTpFdbEntry\0" "dot1qTpFdbAddress\0" "dot1qTpFdbPort\0"
-    "dot1qTpFdbStatus\0" "dot1qTpGroupTable\0" "dot1qTpGroupEntry\0" "dot1qTpGroupAddress\0",
-    "dot1qTpGroupEgressPorts\0" "dot1qTpGroupLearnt\0" "dot1qForwardAllTable\0" "dot1qForwardAllEntry\0"
-    "dot1qForwardAllPorts\0" "dot1qForwardAllStaticPorts\0" "dot1qForwardAllForbiddenPorts\0"
-    "dot1qForwardUnregisteredTable\0" "dot1qForwardUnregisteredEntry\0" "dot1qForwardUnregisteredPorts\0"
-    "dot1qForwardUnregisteredStaticPorts\0" "dot1qForwardUnregisteredForbiddenPorts\0" "dot1qStatic\0"
-    "dot1qStaticUnicastTable\0" "dot1qStaticUnicastEntry\0" "dot1qStaticUnicastAddress\0"
-    "dot1qStaticUnicastReceivePort\0" "dot1qStaticUnicastAllowedToGoTo\0" "dot1qStaticUnicastStatus\0",
+    "tcpConnectionLocalAddress\0" "tcpConnectionLocalPort\0" "tcpConnectionRemAddressType\0",
+    "tcpConnectionRemAddress\0" "tcpConnectionRemPort\0" "tcpConnectionState\0" "tcpConnectionProcess\0"
+    "tcpListenerTable\0" "tcpListenerEntry\0" "tcpListenerLocalAddressType\0" "tcpListenerLocalAddress\0"
+    "tcpListenerLocalPort\0" "tcpListenerProcess\0" "udp\0" "udpInDatagrams\0" "udpNoPorts\0" "udpInErrors\0"
+    "udpOutDatagrams\0" "udpTable\0" "udpEntry\0" "udpLocalAddress\0" "udpLocalPort\0" "udpEndpointTable\0"
+    "udpEndpointEntry\0" "udpEndpointLocalAddressType\0" "udpEndpointLocalAddress\0" "udpEndpointLocalPort\0"
+    "udpEndpointRemoteAddressType\0" "udpEndpointRemoteAddress\0" "udpEndpointRemotePort\0", "udpEndpointInstance\0"
+    "udpEndpointProcess\0" "udpHCInDatagrams\0" "udpHCOutDatagrams\0" "egp\0" "egpInMsgs\0" "egpInErrors\0"
+    "egpOutMsgs\0" "egpOutErrors\0" "egpNeighTable\0" "egpNeighEntry\0" "egpNeighState\0" "egpNeighAddr\0"
+    "egpNeighAs\0" "egpNeighInMsgs\0" "egpNeighInErrs\0" "egpNeighOutMsgs\0" "egpNeighOutErrs\0" "egpNeighInErrMsgs\0"
+    "egpNeighOutErrMsgs\0" "egpNeighStateUps\0" "egpNeighStateDowns\0" "egpNeighIntervalHello\0"
+    "egpNeighIntervalPoll\0" "egpNeighMode\0" "egpNeighEventTrigger\0" "egpAs\0" "transmission\0" "dot3\0"
+    "dot3StatsTable\0" "dot3StatsEntry\0" "dot3StatsIndex\0" "dot3StatsAlignmentErrors\0", "dot3StatsFCSErrors\0"
+    "dot3StatsSingleCollisionFrames\0" "dot3StatsMultipleCollisionFrames\0" "dot3StatsSQETestErrors\0"
+    "dot3StatsDeferredTransmissions\0" "dot3StatsLateCollisions\0" "dot3StatsExcessiveCollisions\0"
+    "dot3StatsInternalMacTransmitErrors\0" "dot3StatsCarrierSenseErrors\0" "dot3StatsFrameTooLongs\0"
+    "dot3StatsInternalMacReceiveErrors\0" "dot3StatsEtherChipSet\0" "dot3StatsSymbolErrors\0" "dot3StatsDuplexStatus\0"
+    "dot3StatsRateControlAbility\0" "dot3StatsRateControlStatus\0" "dot3CollTable\0" "dot3CollEntry\0" "dot3CollCount\0"
+    "dot3CollFrequencies\0" "dot3Tests\0", "dot3TestTdr\0" "dot3TestLoopBack\0" "dot3Errors\0" "dot3ErrorInitError\0"
+    "dot3ErrorLoopbackError\0" "dot3ControlTable\0" "dot3ControlEntry\0" "dot3ControlFunctionsSupported\0"
+    "dot3ControlInUnknownOpcodes\0" "dot3HCControlInUnknownOpcodes\0" "dot3PauseTable\0" "dot3PauseEntry\0"
+    "dot3PauseAdminMode\0" "dot3PauseOperMode\0" "dot3InPauseFrames\0" "dot3OutPauseFrames\0" "dot3HCInPauseFrames\0"
+    "dot3HCOutPauseFrames\0" "dot3HCStatsTable\0" "dot3HCStatsEntry\0" "dot3HCStatsAlignmentErrors\0"
+    "dot3HCStatsFCSErrors\0" "dot3HCStatsInternalMacTransmitErrors\0" "dot3HCStatsFrameTooLongs\0",
+    "dot3HCStatsInternalMacReceiveErrors\0" "dot3HCStatsSymbolErrors\0" "snmp\0" "snmpInPkts\0" "snmpOutPkts\0"
+    "snmpInBadVersions\0" "snmpInBadCommunityNames\0" "snmpInBadCommunityUses\0" "snmpInASNParseErrs\0"
+    "snmpInTooBigs\0" "snmpInNoSuchNames\0" "snmpInBadValues\0" "snmpInReadOnlys\0" "snmpInGenErrs\0"
+    "snmpInTotalReqVars\0" "snmpInTotalSetVars\0" "snmpInGetRequests\0" "snmpInGetNexts\0" "snmpInSetRequests\0"
+    "snmpInGetResponses\0" "snmpInTraps\0" "snmpOutTooBigs\0" "snmpOutNoSuchNames\0" "snmpOutBadValues\0"
+    "snmpOutGenErrs\0" "snmpOutGetRequests\0" "snmpOutGetNexts\0" "snmpOutSetRequests\0", "snmpOutGetResponses\0"
+    "snmpOutTraps\0" "snmpEnableAuthenTraps\0" "snmpSilentDrops\0" "snmpProxyDrops\0" "bgp\0" "bgpNotification\0"
+    "bgpEstablishedNotification\0" "bgpBackwardTransNotification\0" "bgpVersion\0" "bgpLocalAs\0" "bgpPeerTable\0"
+    "bgpPeerEntry\0" "bgpPeerIdentifier\0" "bgpPeerState\0" "bgpPeerAdminStatus\0" "bgpPeerNegotiatedVersion\0"
+    "bgpPeerLocalAddr\0" "bgpPeerLocalPort\0" "bgpPeerRemoteAddr\0" "bgpPeerRemotePort\0" "bgpPeerRemoteAs\0"
+    "bgpPeerInUpdates\0" "bgpPeerOutUpdates\0" "bgpPeerInTotalMessages\0" "bgpPeerOutTotalMessages\0"
+    "bgpPeerLastError\0" "bgpPeerFsmEstablishedTransitions\0", "bgpPeerFsmEstablishedTime\0"
+    "bgpPeerConnectRetryInterval\0" "bgpPeerHoldTime\0" "bgpPeerKeepAlive\0" "bgpPeerHoldTimeConfigured\0"
+    "bgpPeerKeepAliveConfigured\0" "bgpPeerMinASOriginationInterval\0" "bgpPeerMinRouteAdvertisementInterval\0"
+    "bgpPeerInUpdateElapsedTime\0" "bgpIdentifier\0" "bgpRcvdPathAttrTable\0" "bgpPathAttrEntry\0" "bgpPathAttrPeer\0"
+    "bgpPathAttrDestNetwork\0" "bgpPathAttrOrigin\0" "bgpPathAttrASPath\0" "bgpPathAttrNextHop\0"
+    "bgpPathAttrInterASMetric\0" "bgp4PathAttrTable\0" "bgp4PathAttrEntry\0" "bgp4PathAttrPeer\0"
+    "bgp4PathAttrIpAddrPrefixLen\0", "bgp4PathAttrIpAddrPrefix\0" "bgp4PathAttrOrigin\0" "bgp4PathAttrASPathSegment\0"
+    "bgp4PathAttrNextHop\0" "bgp4PathAttrMultiExitDisc\0" "bgp4PathAttrLocalPref\0" "bgp4PathAttrAtomicAggregate\0"
+    "bgp4PathAttrAggregatorAS\0" "bgp4PathAttrAggregatorAddr\0" "bgp4PathAttrCalcLocalPref\0" "bgp4PathAttrBest\0"
+    "bgp4PathAttrUnknown\0" "bgpTraps\0" "bgpEstablished\0" "bgpBackwardTransition\0" "rmon\0" "rmonEventsV2\0"
+    "risingAlarm\0" "fallingAlarm\0" "statistics\0" "etherStatsTable\0" "etherStatsEntry\0" "etherStatsIndex\0"
+    "etherStatsDataSource\0" "etherStatsDropEvents\0" "etherStatsOctets\0" "etherStatsPkts\0",
+    "etherStatsBroadcastPkts\0" "etherStatsMulticastPkts\0" "etherStatsCRCAlignErrors\0" "etherStatsUndersizePkts\0"
+    "etherStatsOversizePkts\0" "etherStatsFragments\0" "etherStatsJabbers\0" "etherStatsCollisions\0"
+    "etherStatsPkts64Octets\0" "etherStatsPkts65to127Octets\0" "etherStatsPkts128to255Octets\0"
+    "etherStatsPkts256to511Octets\0" "etherStatsPkts512to1023Octets\0" "etherStatsPkts1024to1518Octets\0"
+    "etherStatsOwner\0" "etherStatsStatus\0" "history\0" "historyControlTable\0" "historyControlEntry\0"
+    "historyControlIndex\0" "historyControlDataSource\0" "historyControlBucketsRequested\0",
+    "historyControlBucketsGranted\0" "historyControlInterval\0" "historyControlOwner\0" "historyControlStatus\0"
+    "etherHistoryTable\0" "etherHistoryEntry\0" "etherHistoryIndex\0" "etherHistorySampleIndex\0"
+    "etherHistoryIntervalStart\0" "etherHistoryDropEvents\0" "etherHistoryOctets\0" "etherHistoryPkts\0"
+    "etherHistoryBroadcastPkts\0" "etherHistoryMulticastPkts\0" "etherHistoryCRCAlignErrors\0"
+    "etherHistoryUndersizePkts\0" "etherHistoryOversizePkts\0" "etherHistoryFragments\0" "etherHistoryJabbers\0"
+    "etherHistoryCollisions\0" "etherHistoryUtilization\0" "alarm\0" "alarmTable\0" "alarmEntry\0", "alarmIndex\0"
+    "alarmInterval\0" "alarmVariable\0" "alarmSampleType\0" "alarmValue\0" "alarmStartupAlarm\0"
+    "alarmRisingThreshold\0" "alarmFallingThreshold\0" "alarmRisingEventIndex\0" "alarmFallingEventIndex\0"
+    "alarmOwner\0" "alarmStatus\0" "hosts\0" "hostControlTable\0" "hostControlEntry\0" "hostControlIndex\0"
+    "hostControlDataSource\0" "hostControlTableSize\0" "hostControlLastDeleteTime\0" "hostControlOwner\0"
+    "hostControlStatus\0" "hostTable\0" "hostEntry\0" "hostAddress\0" "hostCreationOrder\0" "hostIndex\0" "hostInPkts\0"
+    "hostOutPkts\0" "hostInOctets\0" "hostOutOctets\0" "hostOutErrors\0" "hostOutBroadcastPkts\0",
+    "hostOutMulticastPkts\0" "hostTimeTable\0" "hostTimeEntry\0" "hostTimeAddress\0" "hostTimeCreationOrder\0"
+    "hostTimeIndex\0" "hostTimeInPkts\0" "hostTimeOutPkts\0" "hostTimeInOctets\0" "hostTimeOutOctets\0"
+    "hostTimeOutErrors\0" "hostTimeOutBroadcastPkts\0" "hostTimeOutMulticastPkts\0" "hostTopN\0"
+    "hostTopNControlTable\0" "hostTopNControlEntry\0" "hostTopNControlIndex\0" "hostTopNHostIndex\0"
+    "hostTopNRateBase\0" "hostTopNTimeRemaining\0" "hostTopNDuration\0" "hostTopNRequestedSize\0"
+    "hostTopNGrantedSize\0" "hostTopNStartTime\0" "hostTopNOwner\0" "hostTopNStatus\0" "hostTopNTable\0"
+    "hostTopNEntry\0", "hostTopNReport\0" "hostTopNIndex\0" "hostTopNAddress\0" "hostTopNRate\0" "matrix\0"
+    "matrixControlTable\0" "matrixControlEntry\0" "matrixControlIndex\0" "matrixControlDataSource\0"
+    "matrixControlTableSize\0" "matrixControlLastDeleteTime\0" "matrixControlOwner\0" "matrixControlStatus\0"
+    "matrixSDTable\0" "matrixSDEntry\0" "matrixSDSourceAddress\0" "matrixSDDestAddress\0" "matrixSDIndex\0"
+    "matrixSDPkts\0" "matrixSDOctets\0" "matrixSDErrors\0" "matrixDSTable\0" "matrixDSEntry\0" "matrixDSSourceAddress\0"
+    "matrixDSDestAddress\0" "matrixDSIndex\0" "matrixDSPkts\0" "matrixDSOctets\0" "matrixDSErrors\0" "filter\0"
+    "filterTable\0", "filterEntry\0" "filterIndex\0" "filterChannelIndex\0" "filterPktDataOffset\0" "filterPktData\0"
+    "filterPktDataMask\0" "filterPktDataNotMask\0" "filterPktStatus\0" "filterPktStatusMask\0"
+    "filterPktStatusNotMask\0" "filterOwner\0" "filterStatus\0" "channelTable\0" "channelEntry\0" "channelIndex\0"
+    "channelIfIndex\0" "channelAcceptType\0" "channelDataControl\0" "channelTurnOnEventIndex\0"
+    "channelTurnOffEventIndex\0" "channelEventIndex\0" "channelEventStatus\0" "channelMatches\0" "channelDescription\0"
+    "channelOwner\0" "channelStatus\0" "capture\0" "bufferControlTable\0" "bufferControlEntry\0" "bufferControlIndex\0",
+    "bufferControlChannelIndex\0" "bufferControlFullStatus\0" "bufferControlFullAction\0"
+    "bufferControlCaptureSliceSize\0" "bufferControlDownloadSliceSize\0" "bufferControlDownloadOffset\0"
+    "bufferControlMaxOctetsRequested\0" "bufferControlMaxOctetsGranted\0" "bufferControlCapturedPackets\0"
+    "bufferControlTurnOnTime\0" "bufferControlOwner\0" "bufferControlStatus\0" "captureBufferTable\0"
+    "captureBufferEntry\0" "captureBufferControlIndex\0" "captureBufferIndex\0" "captureBufferPacketID\0"
+    "captureBufferPacketData\0" "captureBufferPacketLength\0" "captureBufferPacketTime\0", "captureBufferPacketStatus\0"
+    "event\0" "eventTable\0" "eventEntry\0" "eventIndex\0" "eventDescription\0" "eventType\0" "eventCommunity\0"
+    "eventLastTimeSent\0" "eventOwner\0" "eventStatus\0" "logTable\0" "logEntry\0" "logEventIndex\0" "logIndex\0"
+    "logTime\0" "logDescription\0" "rmonMibModule\0" "dot1dBridge\0" "dot1dNotifications\0" "newRoot\0"
+    "topologyChange\0" "dot1dBase\0" "dot1dBaseBridgeAddress\0" "dot1dBaseNumPorts\0" "dot1dBaseType\0"
+    "dot1dBasePortTable\0" "dot1dBasePortEntry\0" "dot1dBasePort\0" "dot1dBasePortIfIndex\0" "dot1dBasePortCircuit\0"
+    "dot1dBasePortDelayExceededDiscards\0" "dot1dBasePortMtuExceededDiscards\0", "dot1dStp\0"
+    "dot1dStpProtocolSpecification\0" "dot1dStpPriority\0" "dot1dStpTimeSinceTopologyChange\0" "dot1dStpTopChanges\0"
+    "dot1dStpDesignatedRoot\0" "dot1dStpRootCost\0" "dot1dStpRootPort\0" "dot1dStpMaxAge\0" "dot1dStpHelloTime\0"
+    "dot1dStpHoldTime\0" "dot1dStpForwardDelay\0" "dot1dStpBridgeMaxAge\0" "dot1dStpBridgeHelloTime\0"
+    "dot1dStpBridgeForwardDelay\0" "dot1dStpPortTable\0" "dot1dStpPortEntry\0" "dot1dStpPort\0" "dot1dStpPortPriority\0"
+    "dot1dStpPortState\0" "dot1dStpPortEnable\0" "dot1dStpPortPathCost\0" "dot1dStpPortDesignatedRoot\0"
+    "dot1dStpPortDesignatedCost\0", "dot1dStpPortDesignatedBridge\0" "dot1dStpPortDesignatedPort\0"
+    "dot1dStpPortForwardTransitions\0" "dot1dStpPortPathCost32\0" "dot1dSr\0" "dot1dTp\0"
+    "dot1dTpLearnedEntryDiscards\0" "dot1dTpAgingTime\0" "dot1dTpFdbTable\0" "dot1dTpFdbEntry\0" "dot1dTpFdbAddress\0"
+    "dot1dTpFdbPort\0" "dot1dTpFdbStatus\0" "dot1dTpPortTable\0" "dot1dTpPortEntry\0" "dot1dTpPort\0"
+    "dot1dTpPortMaxInfo\0" "dot1dTpPortInFrames\0" "dot1dTpPortOutFrames\0" "dot1dTpPortInDiscards\0" "dot1dStatic\0"
+    "dot1dStaticTable\0" "dot1dStaticEntry\0" "dot1dStaticAddress\0" "dot1dStaticReceivePort\0"
+    "dot1dStaticAllowedToGoTo\0", "dot1dStaticStatus\0" "qBridgeMIB\0" "qBridgeMIBObjects\0" "dot1qBase\0"
+    "dot1qVlanVersionNumber\0" "dot1qMaxVlanId\0" "dot1qMaxSupportedVlans\0" "dot1qNumVlans\0" "dot1qGvrpStatus\0"
+    "dot1qTp\0" "dot1qFdbTable\0" "dot1qFdbEntry\0" "dot1qFdbId\0" "dot1qFdbDynamicCount\0" "dot1qTpFdbTable\0"
+    "dot1qTpFdbEntry\0" "dot1qTpFdbAddress\0" "dot1qTpFdbPort\0" "dot1qTpFdbStatus\0" "dot1qTpGroupTable\0"
+    "dot1qTpGroupEntry\0" "dot1qTpGroupAddress\0" "dot1qTpGroupEgressPorts\0" "dot1qTpGroupLearnt\0"
+    "dot1qForwardAllTable\0" "dot1qForwardAllEntry\0" "dot1qForwardAllPorts\0" "dot1qForwardAllStaticPorts\0",
+    "dot1qForwardAllForbiddenPorts\0" "dot1qForwardUnregisteredTable\0" "dot1qForwardUnregisteredEntry\0"
+    "dot1qForwardUnregisteredPorts\0" "dot1qForwardUnregisteredStaticPorts\0" "dot1qForwardUnregisteredForbiddenPorts\0"
+    "dot1qStatic\0" "dot1qStaticUnicastTable\0" "dot1qStaticUnicastEntry\0" "dot1qStaticUnicastAddress\0"
+    "dot1qStaticUnicastReceivePort\0" "dot1qStaticUnicastAllowedToGoTo\0" "dot1qStaticUnicastStatus\0"
     "dot1qStaticMulticastTable\0" "dot1qStaticMulticastEntry\0" "dot1qStaticMulticastAddress\0"
-    "dot1qStaticMulticastReceivePort\0" "dot1qStaticMulticastStaticEgressPorts\0"
+    "dot1qStaticMulticastReceivePort\0", "dot1qStaticMulticastStaticEgressPorts\0"
     "dot1qStaticMulticastForbiddenEgressPorts\0" "dot1qStaticMulticastStatus\0" "dot1qVlan\0" "dot1qVlanNumDeletes\0"
     "dot1qVlanCurrentTable\0" "dot1qVlanCurrentEntry\0" "dot1qVlanTimeMark\0" "dot1qVlanIndex\0" "dot1qVlanFdbId\0"
     "dot1qVlanCurrentEgressPorts\0" "dot1qVlanCurrentUntaggedPorts\0" "dot1qVlanStatus\0" "dot1qVlanCreationTime\0"
-    "dot1qVlanStaticTable\0" "dot1qVlanStaticEntry\0" "dot1qVlanStaticName\0", "dot1qVlanStaticEgressPorts\0"
-    "dot1qVlanForbiddenEgressPorts\0" "dot1qVlanStaticUntaggedPorts\0" "dot1qVlanStaticRowStatus\0"
+    "dot1qVlanStaticTable\0" "dot1qVlanStaticEntry\0" "dot1qVlanStaticName\0" "dot1qVlanStaticEgressPorts\0"
+    "dot1qVlanForbiddenEgressPorts\0" "dot1qVlanStaticUntaggedPorts\0" "dot1qVlanStaticRowStatus\0",
     "dot1qNextFreeLocalVlanIndex\0" "dot1qPortVlanTable\0" "dot1qPortVlanEntry\0" "dot1qPvid\0"
     "dot1qPortAcceptableFrameTypes\0" "dot1qPortIngressFiltering\0" "dot1qPortGvrpStatus\0"
     "dot1qPortGvrpFailedRegistrations\0" "dot1qPortGvrpLastPduOrigin\0" "dot1qPortRestrictedVlanRegistration\0"
     "dot1qPortVlanStatisticsTable\0" "dot1qPortVlanStatisticsEntry\0" "dot1qTpVlanPortInFrames\0"
-    "dot1qTpVlanPortOutFrames\0" "dot1qTpVlanPortInDiscards\0", "dot1qTpVlanPortInOverflowFrames\0"
-    "dot1qTpVlanPortOutOverflowFrames\0" "dot1qTpVlanPortInOverflowDiscards\0" "dot1qPortVlanHCStatisticsTable\0"
+    "dot1qTpVlanPortOutFrames\0" "dot1qTpVlanPortInDiscards\0" "dot1qTpVlanPortInOverflowFrames\0"
+    "dot1qTpVlanPortOutOverflowFrames\0" "dot1qTpVlanPortInOverflowDiscards\0", "dot1qPortVlanHCStatisticsTable\0"
     "dot1qPortVlanHCStatisticsEntry\0" "dot1qTpVlanPortHCInFrames\0" "dot1qTpVlanPortHCOutFrames\0"
     "dot1qTpVlanPortHCInDiscards\0" "dot1qLearningConstraintsTable\0" "dot1qLearningConstraintsEntry\0"
     "dot1qConstraintVlan\0" "dot1qConstraintSet\0" "dot1qConstraintType\0" "dot1qConstraintStatus\0"
     "dot1qConstraintSetDefault\0" "dot1qConstraintTypeDefault\0" "dot1vProtocol\0" "dot1vProtocolGroupTable\0"
-    "dot1vProtocolGroupEntry\0", "dot1vProtocolTemplateFrameType\0" "dot1vProtocolTemplateProtocolValue\0"
-    "dot1vProtocolGroupId\0" "dot1vProtocolGroupRowStatus\0" "dot1vProtocolPortTable\0" "dot1vProtocolPortEntry\0"
+    "dot1vProtocolGroupEntry\0" "dot1vProtocolTemplateFrameType\0" "dot1vProtocolTemplateProtocolValue\0"
+    "dot1vProtocolGroupId\0", "dot1vProtocolGroupRowStatus\0" "dot1vProtocolPortTable\0" "dot1vProtocolPortEntry\0"
     "dot1vProtocolPortGroupId\0" "dot1vProtocolPortGroupVid\0" "dot1vProtocolPortRowStatus\0" "host\0" "hrSystem\0"
     "hrSystemUptime\0" "hrSystemDate\0" "hrSystemInitialLoadDevice\0" "hrSystemInitialLoadParameters\0"
     "hrSystemNumUsers\0" "hrSystemProcesses\0" "hrSystemMaxProcesses\0" "hrStorage\0" "hrStorageTypes\0"
-    "hrMemorySize\0" "hrStorageTable\0" "hrStorageEntry\0" "hrStorageIndex\0" "hrStorageType\0" "hrStorageDescr\0",
-    "hrStorageAllocationUnits\0" "hrStorageSize\0" "hrStorageUsed\0" "hrStorageAllocationFailures\0" "hrDevice\0"
+    "hrMemorySize\0" "hrStorageTable\0" "hrStorageEntry\0" "hrStorageIndex\0" "hrStorageType\0" "hrStorageDescr\0"
+    "hrStorageAllocationUnits\0" "hrStorageSize\0" "hrStorageUsed\0" "hrStorageAllocationFailures\0" "hrDevice\0",
     "hrDeviceTypes\0" "hrDeviceTable\0" "hrDeviceEntry\0" "hrDeviceIndex\0" "hrDeviceType\0" "hrDeviceDescr\0"
     "hrDeviceID\0" "hrDeviceStatus\0" "hrDeviceErrors\0" "hrProcessorTable\0" "hrProcessorEntry\0" "hrProcessorFrwID\0"
     "hrProcessorLoad\0" "hrNetworkTable\0" "hrNetworkEntry\0" "hrNetworkIfIndex\0" "hrPrinterTable\0" "hrPrinterEntry\0"
     "hrPrinterStatus\0" "hrPrinterDetectedErrorState\0" "hrDiskStorageTable\0" "hrDiskStorageEntry\0"
-    "hrDiskStorageAccess\0" "hrDiskStorageMedia\0" "hrDiskStorageRemoveble\0", "hrDiskStorageCapacity\0"
-    "hrPartitionTable\0" "hrPartitionEntry\0" "hrPartitionIndex\0" "hrPartitionLabel\0" "hrPartitionID\0"
+    "hrDiskStorageAccess\0" "hrDiskStorageMedia\0" "hrDiskStorageRemoveble\0" "hrDiskStorageCapacity\0"
+    "hrPartitionTable\0" "hrPartitionEntry\0" "hrPartitionIndex\0" "hrPartitionLabel\0", "hrPartitionID\0"
     "hrPartitionSize\0" "hrPartitionFSIndex\0" "hrFSTable\0" "hrFSEntry\0" "hrFSIndex\0" "hrFSMountPoint\0"
     "hrFSRemoteMountPoint\0" "hrFSType\0" "hrFSAccess\0" "hrFSBootable\0" "hrFSStorageIndex\0"
     "hrFSLastFullBackupDate\0" "hrFSLastPartialBackupDate\0" "hrFSTypes\0" "hrSWRun\0" "hrSWOSIndex\0" "hrSWRunTable\0"
     "hrSWRunEntry\0" "hrSWRunIndex\0" "hrSWRunName\0" "hrSWRunID\0" "hrSWRunPath\0" "hrSWRunParameters\0"
-    "hrSWRunType\0" "hrSWRunStatus\0" "hrSWRunPerf\0" "hrSWRunPerfTable\0" "hrSWRunPerfEntry\0", "hrSWRunPerfCPU\0"
-    "hrSWRunPerfMem\0" "hrSWInstalled\0" "hrSWInstalledLastChange\0" "hrSWInstalledLastUpdateTime\0"
+    "hrSWRunType\0" "hrSWRunStatus\0" "hrSWRunPerf\0" "hrSWRunPerfTable\0" "hrSWRunPerfEntry\0" "hrSWRunPerfCPU\0"
+    "hrSWRunPerfMem\0" "hrSWInstalled\0" "hrSWInstalledLastChange\0" "hrSWInstalledLastUpdateTime\0",
     "hrSWInstalledTable\0" "hrSWInstalledEntry\0" "hrSWInstalledIndex\0" "hrSWInstalledName\0" "hrSWInstalledID\0"
     "hrSWInstalledType\0" "hrSWInstalledDate\0" "hrMIBAdminInfo\0" "hostResourcesMibModule\0" "hrMIBCompliances\0"
     "hrMIBCompliance\0" "hrMIBGroups\0" "hrSystemGroup\0" "hrStorageGroup\0" "hrDeviceGroup\0" "hrSWRunGroup\0"
     "hrSWRunPerfGroup\0" "hrSWInstalledGroup\0" "ifMIB\0" "ifMIBObjects\0" "ifXTable\0" "ifXEntry\0" "ifName\0"
-    "ifInMulticastPkts\0" "ifInBroadcastPkts\0" "ifOutMulticastPkts\0", "ifOutBroadcastPkts\0" "ifHCInOctets\0"
-    "ifHCInUcastPkts\0" "ifHCInMulticastPkts\0" "ifHCInBroadcastPkts\0" "ifHCOutOctets\0" "ifHCOutUcastPkts\0"
+    "ifInMulticastPkts\0" "ifInBroadcastPkts\0" "ifOutMulticastPkts\0" "ifOutBroadcastPkts\0" "ifHCInOctets\0"
+    "ifHCInUcastPkts\0" "ifHCInMulticastPkts\0" "ifHCInBroadcastPkts\0" "ifHCOutOctets\0", "ifHCOutUcastPkts\0"
     "ifHCOutMulticastPkts\0" "ifHCOutBroadcastPkts\0" "ifLinkUpDownTrapEnable\0" "ifHighSpeed\0" "ifPromiscuousMode\0"
     "ifConnectorPresent\0" "ifAlias\0" "ifCounterDiscontinuityTime\0" "ifStackTable\0" "ifStackEntry\0"
     "ifStackHigherLayer\0" "ifStackLowerLayer\0" "ifStackStatus\0" "ifTestTable\0" "ifTestEntry\0" "ifTestId\0"
     "ifTestStatus\0" "ifTestType\0" "ifTestResult\0" "ifTestCode\0" "ifTestOwner\0" "ifRcvAddressTable\0"
-    "ifRcvAddressEntry\0" "ifRcvAddressAddress\0", "ifRcvAddressStatus\0" "ifRcvAddressType\0" "ifTableLastChange\0"
-    "ifStackLastChange\0" "ifConformance\0" "ifGroups\0" "ifGeneralGroup\0" "ifFixedLengthGroup\0"
+    "ifRcvAddressEntry\0" "ifRcvAddressAddress\0" "ifRcvAddressStatus\0" "ifRcvAddressType\0" "ifTableLastChange\0"
+    "ifStackLastChange\0" "ifConformance\0" "ifGroups\0" "ifGeneralGroup\0", "ifFixedLengthGroup\0"
     "ifHCFixedLengthGroup\0" "ifPacketGroup\0" "ifHCPacketGroup\0" "ifVHCPacketGroup\0" "ifRcvAddressGroup\0"
     "ifTestGroup\0" "ifStackGroup\0" "ifGeneralInformationGroup\0" "ifStackGroup2\0" "ifOldObjectsGroup\0"
     "ifCounterDiscontinuityGroup\0" "linkUpDownNotificationsGroup\0" "ifCompliances\0" "ifCompliance\0"
-    "ifCompliance2\0" "ifCompliance3\0" "etherMIB\0" "etherMIBObjects\0" "entityMIB\0" "entityMIBObjects\0"
-    "entityPhysical\0" "entPhysicalTable\0", "entPhysicalEntry\0" "entPhysicalIndex\0" "entPhysicalDescr\0"
-    "entPhysicalVendorType\0" "entPhysicalContainedIn\0" "entPhysicalClass\0" "entPhysicalParentRelPos\0"
-    "entPhysicalName\0" "entPhysicalHardwareRev\0" "entPhysicalFirmwareRev\0" "entPhysicalSoftwareRev\0"
-    "entPhysicalSerialNum\0" "entPhysicalMfgName\0" "entPhysicalModelName\0" "entPhysicalAlias\0" "entPhysicalAssetID\0"
-    "entPhysicalIsFRU\0" "entPhysicalMfgDate\0" "entPhysicalUris\0" "entityLogical\0" "entLogicalTable\0"
-    "entLogicalEntry\0" "entLogicalIndex\0" "entLogicalDescr\0" "entLogicalType\0" "entLogicalCommunity\0"
-    "entLogicalTAddress\0", "entLogicalTDomain\0" "entLogicalContextEngineID\0" "entLogicalContextName\0"
-    "entityMapping\0" "entLPMappingTable\0" "entLPMappingEntry\0" "entLPPhysicalIndex\0" "entAliasMappingTable\0"
-    "entAliasMappingEntry\0" "entAliasLogicalIndexOrZero\0" "entAliasMappingIdentifier\0" "entPhysicalContainsTable\0"
-    "entPhysicalContainsEntry\0" "entPhysicalChildIndex\0" "entityGeneral\0" "entLastChangeTime\0" "entityMIBTraps\0"
-    "entityMIBTrapPrefix\0" "entConfigChange\0" "ipMIB\0" "ipMIBConformance\0" "ipMIBCompliances\0" "ipMIBCompliance\0"
-    "ipMIBCompliance2\0" "ipMIBGroups\0" "ipGroup\0" "icmpGroup\0" "ipv4GeneralGroup\0", "ipv4IfGroup\0"
-    "ipv6GeneralGroup2\0" "ipv6IfGroup\0" "ipLastChangeGroup\0" "ipSystemStatsGroup\0" "ipv4SystemStatsGroup\0"
-    "ipSystemStatsHCOctetGroup\0" "ipSystemStatsHCPacketGroup\0" "ipv4SystemStatsHCPacketGroup\0" "ipIfStatsGroup\0"
-    "ipv4IfStatsGroup\0" "ipIfStatsHCOctetGroup\0" "ipIfStatsHCPacketGroup\0" "ipv4IfStatsHCPacketGroup\0"
-    "ipAddressPrefixGroup\0" "ipAddressGroup\0" "ipNetToPhysicalGroup\0" "ipv6ScopeGroup\0" "ipDefaultRouterGroup\0"
-    "ipv6RouterAdvertGroup\0" "icmpStatsGroup\0" "tcpMIB\0" "tcpMIBConformance\0" "tcpMIBCompliances\0"
-    "tcpMIBCompliance\0" "tcpMIBCompliance2\0" "tcpMIBGroups\0", "tcpGroup\0" "tcpBaseGroup\0" "tcpConnectionGroup\0"
-    "tcpListenerGroup\0" "tcpHCGroup\0" "udpMIB\0" "udpMIBConformance\0" "udpMIBCompliances\0" "udpMIBCompliance\0"
-    "udpMIBCompliance2\0" "udpMIBGroups\0" "udpGroup\0" "udpBaseGroup\0" "udpHCGroup\0" "udpEndpointGroup\0"
-    "ifInvertedStackMIB\0" "ifInvMIBObjects\0" "ifInvStackTable\0" "ifInvStackEntry\0" "ifInvStackStatus\0"
-    "entitySensorMIB\0" "entitySensorObjects\0" "entPhySensorTable\0" "entPhySensorEntry\0" "entPhySensorType\0"
-    "entPhySensorScale\0" "entPhySensorPrecision\0" "entPhySensorValue\0" "entPhySensorOperStatus\0"
-    "entPhySensorUnitsDisplay\0", "entPhySensorValueTimeStamp\0" "entPhySensorValueUpdateRate\0" "experimental\0"
-    "Experimental\0" "private\0" "Private\0" "enterprises\0" "Enterprises\0" "nisMailAlias\0" "rfc822MailMember\0"
-    "javaClassName\0" "javaCodebase\0" "javaSerializedData\0" "javaFactory\0" "javaReferenceAddress\0" "javaDoc\0"
-    "javaClassNames\0" "corbaIor\0" "corbaRepositoryId\0" "javaContainer\0" "javaObject\0" "javaSerializedObject\0"
-    "javaNamingReference\0" "javaMarshalledObject\0" "corbaObject\0" "corbaContainer\0" "corbaObjectReference\0"
-    "pwdAttribute\0" "pwdMinAge\0" "pwdMaxAge\0" "pwdInHistory\0" "pwdCheckQuality\0" "pwdMinLength\0"
-    "pwdExpireWarning\0", "pwdGraceAuthNLimit\0" "pwdLockout\0" "pwdLockoutDuration\0" "pwdMaxFailure\0"
-    "pwdFailureCountInterval\0" "pwdMustChange\0" "pwdAllowUserChange\0" "pwdSafeModify\0" "pwdChangedTime\0"
-    "pwdAccountLockedTime\0" "pwdFailureTime\0" "pwdHistory\0" "pwdGraceUseTime\0" "pwdReset\0" "pwdPolicySubentry\0"
-    "pwdMinDelay\0" "pwdMaxDelay\0" "pwdMaxIdle\0" "pwdStartTime\0" "pwdEndTime\0" "pwdLastSuccess\0" "pwdGraceExpiry\0"
-    "pwdMaxLength\0" "pwdMaxRecordedFailure\0" "pwdAccountTmpLockoutEnd\0" "pwdPolicy\0"
-    "LDAP_CONTROL_PASSWORDPOLICYREQUEST\0" "LDAP_CONTROL_PASSWORDPOLICYRESPONSE\0" "targetUniqueId\0",
+    "ifCompliance2\0" "ifCompliance3\0" "upsMIB\0" "upsObjects\0" "upsIdent\0" "upsIdentManufacturer\0"
+    "upsIdentModel\0" "upsIdentUPSSoftwareVersion\0" "upsIdentAgentSoftwareVersion\0" "upsIdentName\0"
+    "upsIdentAttachedDevices\0" "upsBattery\0" "upsBatteryStatus\0" "upsSecondsOnBattery\0",
+    "upsEstimatedMinutesRemaining\0" "upsEstimatedChargeRemaining\0" "upsBatteryVoltage\0" "upsBatteryCurrent\0"
+    "upsBatteryTemperature\0" "upsInput\0" "upsInputLineBads\0" "upsInputNumLines\0" "upsInputTable\0" "upsInputEntry\0"
+    "upsInputLineIndex\0" "upsInputFrequency\0" "upsInputVoltage\0" "upsInputCurrent\0" "upsInputTruePower\0"
+    "upsOutput\0" "upsOutputSource\0" "upsOutputFrequency\0" "upsOutputNumLines\0" "upsOutputTable\0" "upsOutputEntry\0"
+    "upsOutputLineIndex\0" "upsOutputVoltage\0" "upsOutputCurrent\0" "upsOutputPower\0" "upsOutputPercentLoad\0"
+    "upsBypass\0" "upsBypassFrequency\0" "upsBypassNumLines\0", "upsBypassTable\0" "upsBypassEntry\0"
+    "upsBypassLineIndex\0" "upsBypassVoltage\0" "upsBypassCurrent\0" "upsBypassPower\0" "upsAlarm\0"
+    "upsAlarmsPresent\0" "upsAlarmTable\0" "upsAlarmEntry\0" "upsAlarmId\0" "upsAlarmDescr\0" "upsAlarmTime\0"
+    "upsWellKnownAlarms\0" "upsAlarmBatteryBad\0" "upsAlarmOnBattery\0" "upsAlarmLowBattery\0"
+    "upsAlarmDepletedBattery\0" "upsAlarmTempBad\0" "upsAlarmInputBad\0" "upsAlarmOutputBad\0"
+    "upsAlarmOutputOverload\0" "upsAlarmOnBypass\0" "upsAlarmBypassBad\0" "upsAlarmOutputOffAsRequested\0"
+    "upsAlarmUpsOffAsRequested\0" "upsAlarmChargerFailed\0" "upsAlarmUpsOutputOff\0", "upsAlarmUpsSystemOff\0"
+    "upsAlarmFanFailure\0" "upsAlarmFuseFailure\0" "upsAlarmGeneralFault\0" "upsAlarmDiagnosticTestFailed\0"
+    "upsAlarmCommunicationsLost\0" "upsAlarmAwaitingPower\0" "upsAlarmShutdownPending\0" "upsAlarmShutdownImminent\0"
+    "upsAlarmTestInProgress\0" "upsTest\0" "upsTestId\0" "upsTestSpinLock\0" "upsTestResultsSummary\0"
+    "upsTestResultsDetail\0" "upsTestStartTime\0" "upsTestElapsedTime\0" "upsWellKnownTests\0"
+    "upsTestNoTestsInitiated\0" "upsTestAbortTestInProgress\0" "upsTestGeneralSystemsTest\0" "upsTestQuickBatteryTest\0"
+    "upsTestDeepBatteryCalibration\0" "upsControl\0", "upsShutdownType\0" "upsShutdownAfterDelay\0"
+    "upsStartupAfterDelay\0" "upsRebootWithDuration\0" "upsAutoRestart\0" "upsConfig\0" "upsConfigInputVoltage\0"
+    "upsConfigInputFreq\0" "upsConfigOutputVoltage\0" "upsConfigOutputFreq\0" "upsConfigOutputVA\0"
+    "upsConfigOutputPower\0" "upsConfigLowBattTime\0" "upsConfigAudibleStatus\0" "upsConfigLowVoltageTransferPoint\0"
+    "upsConfigHighVoltageTransferPoint\0" "upsTraps\0" "upsTrapOnBattery\0" "upsTrapTestCompleted\0"
+    "upsTrapAlarmEntryAdded\0" "upsTrapAlarmEntryRemoved\0" "etherMIB\0" "etherMIBObjects\0" "printmib\0" "prtGeneral\0"
+    "prtGeneralTable\0", "prtGeneralEntry\0" "prtGeneralConfigChanges\0" "prtGeneralCurrentLocalization\0"
+    "prtGeneralReset\0" "prtGeneralCurrentOperator\0" "prtGeneralServicePerson\0" "prtInputDefaultIndex\0"
+    "prtOutputDefaultIndex\0" "prtMarkerDefaultIndex\0" "prtMediaPathDefaultIndex\0" "prtConsoleLocalization\0"
+    "prtConsoleNumberOfDisplayLines\0" "prtConsoleNumberOfDisplayChars\0" "prtConsoleDisable\0"
+    "prtAuxiliarySheetStartupPage\0" "prtAuxiliarySheetBannerPage\0" "prtGeneralPrinterName\0"
+    "prtGeneralSerialNumber\0" "prtAlertCriticalEvents\0" "prtAlertAllEvents\0" "prtStorageRefTable\0",
+    "prtStorageRefEntry\0" "prtStorageRefSeqNumber\0" "prtStorageRefIndex\0" "prtDeviceRefTable\0" "prtDeviceRefEntry\0"
+    "prtDeviceRefSeqNumber\0" "prtDeviceRefIndex\0" "prtCover\0" "prtCoverTable\0" "prtCoverEntry\0" "prtCoverIndex\0"
+    "prtCoverDescription\0" "prtCoverStatus\0" "prtLocalization\0" "prtLocalizationTable\0" "prtLocalizationEntry\0"
+    "prtLocalizationIndex\0" "prtLocalizationLanguage\0" "prtLocalizationCountry\0" "prtLocalizationCharacterSet\0"
+    "prtInput\0" "prtInputTable\0" "prtInputEntry\0" "prtInputIndex\0" "prtInputType\0" "prtInputDimUnit\0"
+    "prtInputMediaDimFeedDirDeclared\0", "prtInputMediaDimXFeedDirDeclared\0" "prtInputMediaDimFeedDirChosen\0"
+    "prtInputMediaDimXFeedDirChosen\0" "prtInputCapacityUnit\0" "prtInputMaxCapacity\0" "prtInputCurrentLevel\0"
+    "prtInputStatus\0" "prtInputMediaName\0" "prtInputName\0" "prtInputVendorName\0" "prtInputModel\0"
+    "prtInputVersion\0" "prtInputSerialNumber\0" "prtInputDescription\0" "prtInputSecurity\0" "prtInputMediaWeight\0"
+    "prtInputMediaType\0" "prtInputMediaColor\0" "prtInputMediaFormParts\0" "prtInputMediaLoadTimeout\0"
+    "prtInputNextIndex\0" "prtOutput\0" "prtOutputTable\0" "prtOutputEntry\0" "prtOutputIndex\0" "prtOutputType\0",
+    "prtOutputCapacityUnit\0" "prtOutputMaxCapacity\0" "prtOutputRemainingCapacity\0" "prtOutputStatus\0"
+    "prtOutputName\0" "prtOutputVendorName\0" "prtOutputModel\0" "prtOutputVersion\0" "prtOutputSerialNumber\0"
+    "prtOutputDescription\0" "prtOutputSecurity\0" "prtOutputDimUnit\0" "prtOutputMaxDimFeedDir\0"
+    "prtOutputMaxDimXFeedDir\0" "prtOutputMinDimFeedDir\0" "prtOutputMinDimXFeedDir\0" "prtOutputStackingOrder\0"
+    "prtOutputPageDeliveryOrientation\0" "prtOutputBursting\0" "prtOutputDecollating\0" "prtOutputPageCollated\0"
+    "prtOutputOffsetStacking\0" "prtMarker\0" "prtMarkerTable\0" "prtMarkerEntry\0", "prtMarkerIndex\0"
+    "prtMarkerMarkTech\0" "prtMarkerCounterUnit\0" "prtMarkerLifeCount\0" "prtMarkerPowerOnCount\0"
+    "prtMarkerProcessColorants\0" "prtMarkerSpotColorants\0" "prtMarkerAddressabilityUnit\0"
+    "prtMarkerAddressabilityFeedDir\0" "prtMarkerAddressabilityXFeedDir\0" "prtMarkerNorthMargin\0"
+    "prtMarkerSouthMargin\0" "prtMarkerWestMargin\0" "prtMarkerEastMargin\0" "prtMarkerStatus\0" "prtMarkerSupplies\0"
+    "prtMarkerSuppliesTable\0" "prtMarkerSuppliesEntry\0" "prtMarkerSuppliesIndex\0" "prtMarkerSuppliesMarkerIndex\0"
+    "prtMarkerSuppliesColorantIndex\0" "prtMarkerSuppliesClass\0", "prtMarkerSuppliesType\0"
+    "prtMarkerSuppliesDescription\0" "prtMarkerSuppliesSupplyUnit\0" "prtMarkerSuppliesMaxCapacity\0"
+    "prtMarkerSuppliesLevel\0" "prtMarkerColorant\0" "prtMarkerColorantTable\0" "prtMarkerColorantEntry\0"
+    "prtMarkerColorantIndex\0" "prtMarkerColorantMarkerIndex\0" "prtMarkerColorantRole\0" "prtMarkerColorantValue\0"
+    "prtMarkerColorantTonality\0" "prtMediaPath\0" "prtMediaPathTable\0" "prtMediaPathEntry\0" "prtMediaPathIndex\0"
+    "prtMediaPathMaxSpeedPrintUnit\0" "prtMediaPathMediaSizeUnit\0" "prtMediaPathMaxSpeed\0"
+    "prtMediaPathMaxMediaFeedDir\0", "prtMediaPathMaxMediaXFeedDir\0" "prtMediaPathMinMediaFeedDir\0"
+    "prtMediaPathMinMediaXFeedDir\0" "prtMediaPathType\0" "prtMediaPathDescription\0" "prtMediaPathStatus\0"
+    "prtChannel\0" "prtChannelTable\0" "prtChannelEntry\0" "prtChannelIndex\0" "prtChannelType\0"
+    "prtChannelProtocolVersion\0" "prtChannelCurrentJobCntlLangIndex\0" "prtChannelDefaultPageDescLangIndex\0"
+    "prtChannelState\0" "prtChannelIfIndex\0" "prtChannelStatus\0" "prtChannelInformation\0" "prtInterpreter\0"
+    "prtInterpreterTable\0" "prtInterpreterEntry\0" "prtInterpreterIndex\0" "prtInterpreterLangFamily\0",
+    "prtInterpreterLangLevel\0" "prtInterpreterLangVersion\0" "prtInterpreterDescription\0" "prtInterpreterVersion\0"
+    "prtInterpreterDefaultOrientation\0" "prtInterpreterFeedAddressability\0" "prtInterpreterXFeedAddressability\0"
+    "prtInterpreterDefaultCharSetIn\0" "prtInterpreterDefaultCharSetOut\0" "prtInterpreterTwoWay\0"
+    "prtConsoleDisplayBuffer\0" "prtConsoleDisplayBufferTable\0" "prtConsoleDisplayBufferEntry\0"
+    "prtConsoleDisplayBufferIndex\0" "prtConsoleDisplayBufferText\0" "prtConsoleLights\0" "prtConsoleLightTable\0"
+    "prtConsoleLightEntry\0" "prtConsoleLightIndex\0", "prtConsoleOnTime\0" "prtConsoleOffTime\0" "prtConsoleColor\0"
+    "prtConsoleDescription\0" "prtAlert\0" "prtAlertTable\0" "prtAlertEntry\0" "prtAlertIndex\0"
+    "prtAlertSeverityLevel\0" "prtAlertTrainingLevel\0" "prtAlertGroupIndex\0" "prtAlertLocation\0" "prtAlertCode\0"
+    "prtAlertDescription\0" "prtAlertTime\0" "printerV1Alert\0" "printerV2AlertPrefix\0" "printerV2Alert\0"
+    "entityMIB\0" "entityMIBObjects\0" "entityPhysical\0" "entPhysicalTable\0" "entPhysicalEntry\0" "entPhysicalIndex\0"
+    "entPhysicalDescr\0" "entPhysicalVendorType\0" "entPhysicalContainedIn\0" "entPhysicalClass\0"
+    "entPhysicalParentRelPos\0", "entPhysicalName\0" "entPhysicalHardwareRev\0" "entPhysicalFirmwareRev\0"
+    "entPhysicalSoftwareRev\0" "entPhysicalSerialNum\0" "entPhysicalMfgName\0" "entPhysicalModelName\0"
+    "entPhysicalAlias\0" "entPhysicalAssetID\0" "entPhysicalIsFRU\0" "entPhysicalMfgDate\0" "entPhysicalUris\0"
+    "entityLogical\0" "entLogicalTable\0" "entLogicalEntry\0" "entLogicalIndex\0" "entLogicalDescr\0" "entLogicalType\0"
+    "entLogicalCommunity\0" "entLogicalTAddress\0" "entLogicalTDomain\0" "entLogicalContextEngineID\0"
+    "entLogicalContextName\0" "entityMapping\0" "entLPMappingTable\0" "entLPMappingEntry\0" "entLPPhysicalIndex\0",
+    "entAliasMappingTable\0" "entAliasMappingEntry\0" "entAliasLogicalIndexOrZero\0" "entAliasMappingIdentifier\0"
+    "entPhysicalContainsTable\0" "entPhysicalContainsEntry\0" "entPhysicalChildIndex\0" "entityGeneral\0"
+    "entLastChangeTime\0" "entityMIBTraps\0" "entityMIBTrapPrefix\0" "entConfigChange\0" "ipMIB\0" "ipMIBConformance\0"
+    "ipMIBCompliances\0" "ipMIBCompliance\0" "ipMIBCompliance2\0" "ipMIBGroups\0" "ipGroup\0" "icmpGroup\0"
+    "ipv4GeneralGroup\0" "ipv4IfGroup\0" "ipv6GeneralGroup2\0" "ipv6IfGroup\0" "ipLastChangeGroup\0"
+    "ipSystemStatsGroup\0" "ipv4SystemStatsGroup\0" "ipSystemStatsHCOctetGroup\0", "ipSystemStatsHCPacketGroup\0"
+    "ipv4SystemStatsHCPacketGroup\0" "ipIfStatsGroup\0" "ipv4IfStatsGroup\0" "ipIfStatsHCOctetGroup\0"
+    "ipIfStatsHCPacketGroup\0" "ipv4IfStatsHCPacketGroup\0" "ipAddressPrefixGroup\0" "ipAddressGroup\0"
+    "ipNetToPhysicalGroup\0" "ipv6ScopeGroup\0" "ipDefaultRouterGroup\0" "ipv6RouterAdvertGroup\0" "icmpStatsGroup\0"
+    "tcpMIB\0" "tcpMIBConformance\0" "tcpMIBCompliances\0" "tcpMIBCompliance\0" "tcpMIBCompliance2\0" "tcpMIBGroups\0"
+    "tcpGroup\0" "tcpBaseGroup\0" "tcpConnectionGroup\0" "tcpListenerGroup\0" "tcpHCGroup\0" "udpMIB\0"
+    "udpMIBConformance\0" "udpMIBCompliances\0" "udpMIBCompliance\0", "udpMIBCompliance2\0" "udpMIBGroups\0"
+    "udpGroup\0" "udpBaseGroup\0" "udpHCGroup\0" "udpEndpointGroup\0" "ifInvertedStackMIB\0" "ifInvMIBObjects\0"
+    "ifInvStackTable\0" "ifInvStackEntry\0" "ifInvStackStatus\0" "entitySensorMIB\0" "entitySensorObjects\0"
+    "entPhySensorTable\0" "entPhySensorEntry\0" "entPhySensorType\0" "entPhySensorScale\0" "entPhySensorPrecision\0"
+    "entPhySensorValue\0" "entPhySensorOperStatus\0" "entPhySensorUnitsDisplay\0" "entPhySensorValueTimeStamp\0"
+    "entPhySensorValueUpdateRate\0" "experimental\0" "Experimental\0" "private\0" "Private\0" "enterprises\0"
+    "Enterprises\0" "nisMailAlias\0", "rfc822MailMember\0" "javaClassName\0" "javaCodebase\0" "javaSerializedData\0"
+    "javaFactory\0" "javaReferenceAddress\0" "javaDoc\0" "javaClassNames\0" "corbaIor\0" "corbaRepositoryId\0"
+    "javaContainer\0" "javaObject\0" "javaSerializedObject\0" "javaNamingReference\0" "javaMarshalledObject\0"
+    "corbaObject\0" "corbaContainer\0" "corbaObjectReference\0" "pwdAttribute\0" "pwdMinAge\0" "pwdMaxAge\0"
+    "pwdInHistory\0" "pwdCheckQuality\0" "pwdMinLength\0" "pwdExpireWarning\0" "pwdGraceAuthNLimit\0" "pwdLockout\0"
+    "pwdLockoutDuration\0" "pwdMaxFailure\0" "pwdFailureCountInterval\0" "pwdMustChange\0" "pwdAllowUserChange\0"
+    "pwdSafeModify\0", "pwdChangedTime\0" "pwdAccountLockedTime\0" "pwdFailureTime\0" "pwdHistory\0" "pwdGraceUseTime\0"
+    "pwdReset\0" "pwdPolicySubentry\0" "pwdMinDelay\0" "pwdMaxDelay\0" "pwdMaxIdle\0" "pwdStartTime\0" "pwdEndTime\0"
+    "pwdLastSuccess\0" "pwdGraceExpiry\0" "pwdMaxLength\0" "pwdMaxRecordedFailure\0" "pwdAccountTmpLockoutEnd\0"
+    "pwdPolicy\0" "LDAP_CONTROL_PASSWORDPOLICYREQUEST\0" "LDAP_CONTROL_PASSWORDPOLICYRESPONSE\0" "targetUniqueId\0"
     "LDAP_CONTROL_X_ACCOUNT_USABILITY\0" "IDEA-CBC\0" "idea-cbc\0" "id-IDEA-CBC\0" "id-alg-CMSIDEAwrap\0" "microsoft\0"
-    "SPC_INDIRECT_DATA_OBJID\0" "SPC_STATEMENT_TYPE_OBJID\0" "SPC_SP_OPUS_INFO_OBJID\0" "msExtReq\0"
+    "SPC_INDIRECT_DATA_OBJID\0" "SPC_STATEMENT_TYPE_OBJID\0", "SPC_SP_OPUS_INFO_OBJID\0" "msExtReq\0"
     "Microsoft Extension Request\0" "szOID_CERT_EXTENSIONS\0" "SPC_PE_IMAGE_DATA_OBJID\0"
     "SPC_INDIVIDUAL_SP_KEY_PURPOSE_OBJID\0" "msCodeInd\0" "Microsoft Individual Code Signing\0"
-    "SPC_COMMERCIAL_SP_KEY_PURPOSE_OBJID\0" "msCodeCom\0" "Microsoft Commercial Code Signing\0" "NTLMSSP\0" "NEGOEX\0"
-    "szOID_RFC3161_counterSign\0" "szOID_CTL\0" "Certificate Trust List\0" "szOID_NEXT_UPDATE_LOCATION\0",
-    "szOID_KP_CTL_USAGE_SIGNING\0" "msCTLSign\0" "Microsoft Trust List Signing\0"
-    "Certificate Trust List (CTL) Signing\0" "szOID_KP_TIME_STAMP_SIGNING\0" "Microsoft Time Stamping\0"
-    "Timestamp Signing\0" "szOID_SERVER_GATED_CRYPTO\0" "msSGC\0" "Microsoft Server Gated Crypto\0" "szOID_KP_EFS\0"
-    "msEFS\0" "Microsoft Encrypted File System\0" "Encrypting File System\0" "EFS Encryption\0" "szOID_EFS_RECOVERY\0"
-    "File Recovery\0" "EFS Recovery\0" "szOID_WHQL_CRYPTO\0" "Windows Hardware Driver Verification\0"
-    "szOID_NT5_CRYPTO\0" "Windows System Component Verification\0" "szOID_OEM_WHQL_CRYPTO\0",
-    "OEM Windows System Component Verification\0" "szOID_EMBEDDED_NT_CRYPTO\0"
-    "Embedded Windows System Component Verification\0" "szOID_ROOT_LIST_SIGNER\0" "Root List Signer\0"
-    "szOID_KP_QUALIFIED_SUBORDINATION\0" "Qualified Subordination\0" "szOID_KP_KEY_RECOVERY\0" "Key Recovery\0"
-    "szOID_KP_DOCUMENT_SIGNING\0" "Document Signing\0" "szOID_KP_LIFETIME_SIGNING\0" "Lifetime Signing\0"
-    "szOID_REVOKED_LIST_SIGNER\0" "Revoked List Signer\0" "szOID_DISALLOWED_LIST\0" "Disallowed List\0" "szOID_DRM\0"
-    "Digital Rights\0" "Digital Rights Management\0" "szOID_LICENSES\0" "Key Pack Licenses\0", "szOID_LICENSE_SERVER\0"
-    "License Server Verification\0" "License Server\0" "szOID_CROSS_CERT_DIST_POINTS\0" "szOID_ANY_APPLICATION_POLICY\0"
-    "All application policies\0" "szOID_RENEWAL_CERTIFICATE\0" "szOID_ENROLLMENT_NAME_VALUE_PAIR\0"
-    "szOID_ENROLLMENT_CSP_PROVIDER\0" "szOID_OS_VERSION\0" "CSPName\0" "Microsoft CSP Name\0"
-    "szOID_PKCS_12_KEY_PROVIDER_NAME_ATTR\0" "LocalKeySet\0" "Microsoft Local Key set\0"
+    "SPC_COMMERCIAL_SP_KEY_PURPOSE_OBJID\0" "msCodeCom\0" "Microsoft Commercial Code Signing\0"
+    "MicrosoftCommercialCodeSigning\0" "ExtKeyUsageMicrosoftCommercialCodeSigning\0" "NTLMSSP\0" "NEGOEX\0"
+    "microsoft_nested_signature\0" "szOID_RFC3161_counterSign\0" "microsoft_time_stamp_token\0" "szOID_CTL\0"
+    "Certificate Trust List\0" "szOID_NEXT_UPDATE_LOCATION\0", "szOID_KP_CTL_USAGE_SIGNING\0" "msCTLSign\0"
+    "Microsoft Trust List Signing\0" "Certificate Trust List (CTL) Signing\0" "microsoft_trust_list_signing\0"
+    "szOID_KP_TIME_STAMP_SIGNING\0" "Microsoft Time Stamping\0" "Timestamp Signing\0" "microsoft_time_stamp_signing\0"
+    "szOID_SERVER_GATED_CRYPTO\0" "msSGC\0" "Microsoft Server Gated Crypto\0" "MicrosoftServerGatedCrypto\0"
+    "ExtKeyUsageMicrosoftServerGatedCrypto\0" "microsoft_server_gated\0" "microsoft_serialized\0" "szOID_KP_EFS\0"
+    "msEFS\0" "Microsoft Encrypted File System\0" "Encrypting File System\0" "EFS Encryption\0" "microsoft_efs\0",
+    "szOID_EFS_RECOVERY\0" "File Recovery\0" "EFS Recovery\0" "microsoft_efs_recovery\0" "szOID_WHQL_CRYPTO\0"
+    "Windows Hardware Driver Verification\0" "microsoft_whql\0" "szOID_NT5_CRYPTO\0"
+    "Windows System Component Verification\0" "microsoft_nt5\0" "szOID_OEM_WHQL_CRYPTO\0"
+    "OEM Windows System Component Verification\0" "microsoft_oem_whql\0" "szOID_EMBEDDED_NT_CRYPTO\0"
+    "Embedded Windows System Component Verification\0" "microsoft_embedded_nt\0" "szOID_ROOT_LIST_SIGNER\0"
+    "Root List Signer\0" "microsoft_root_list_signer\0" "szOID_KP_QUALIFIED_SUBORDINATION\0"
+    "Qualified Subordination\0", "microsoft_qualified_subordination\0" "szOID_KP_KEY_RECOVERY\0" "Key Recovery\0"
+    "microsoft_key_recovery\0" "szOID_KP_DOCUMENT_SIGNING\0" "Document Signing\0" "microsoft_document_signing\0"
+    "szOID_KP_LIFETIME_SIGNING\0" "Lifetime Signing\0" "microsoft_lifetime_signing\0"
+    "microsoft_mobile_device_software\0" "szOID_REVOKED_LIST_SIGNER\0" "Revoked List Signer\0" "szOID_DISALLOWED_LIST\0"
+    "Disallowed List\0" "szOID_DRM\0" "Digital Rights\0" "Digital Rights Management\0" "szOID_LICENSES\0"
+    "Key Pack Licenses\0" "szOID_LICENSE_SERVER\0" "License Server Verification\0" "License Server\0",
+    "szOID_CROSS_CERT_DIST_POINTS\0" "szOID_ANY_APPLICATION_POLICY\0" "All application policies\0"
+    "szOID_RENEWAL_CERTIFICATE\0" "szOID_ENROLLMENT_NAME_VALUE_PAIR\0" "szOID_ENROLLMENT_CSP_PROVIDER\0"
+    "microsoft_enrollment_csp_provider\0" "szOID_OS_VERSION\0" "microsoft_os_version\0" "CSPName\0"
+    "Microsoft CSP Name\0" "szOID_PKCS_12_KEY_PROVIDER_NAME_ATTR\0" "LocalKeySet\0" "Microsoft Local Key set\0"
     "szOID_PKCS_12_EXTENDED_ATTRIBUTES\0" "szOID_AUTO_ENROLL_CTL_USAGE\0" "szOID_ENROLL_CERTTYPE_EXTENSION\0"
-    "Certificate Template Name\0" "szOID_ENROLLMENT_AGENT\0", "Certificate Request Agent\0" "Enrollment Agent\0"
-    "szOID_KP_SMARTCARD_LOGON\0" "msSmartcardLogin\0" "Microsoft Smartcard Login\0" "id-pkinit-ms-eku\0"
-    "Smart Card Logon\0" "Smartcard Login\0" "szOID_NT_PRINCIPAL_NAME\0" "msUPN\0" "Microsoft User Principal Name\0"
+    "Certificate Template Name\0" "microsoft_enroll_certtype\0", "szOID_ENROLLMENT_AGENT\0"
+    "Certificate Request Agent\0" "Enrollment Agent\0" "szOID_KP_SMARTCARD_LOGON\0" "msSmartcardLogin\0"
+    "Microsoft Smartcard Login\0" "id-pkinit-ms-eku\0" "Smart Card Logon\0" "Smartcard Login\0"
+    "microsoft_smart_card_logon\0" "szOID_NT_PRINCIPAL_NAME\0" "msUPN\0" "Microsoft User Principal Name\0"
     "id-pkinit-ms-san\0" "Principal Name\0" "User Principal Name\0" "UPN\0" "szOID_CERT_MANIFOLD\0"
     "szOID_CERTSRV_CA_VERSION\0" "CA Version\0" "szOID_CERTSRV_PREVIOUS_CERT_HASH\0" "Previous CA Certificate Hash\0"
-    "szOID_CRL_VIRTUAL_BASE\0" "Virtual Base CRL Number\0" "szOID_CRL_NEXT_PUBLISH\0" "Next CRL Publish\0"
-    "szOID_KP_CA_EXCHANGE\0", "Private Key Archival\0" "Certificate Authority Private Key Archival\0"
+    "szOID_CRL_VIRTUAL_BASE\0" "Virtual Base CRL Number\0", "szOID_CRL_NEXT_PUBLISH\0" "Next CRL Publish\0"
+    "szOID_KP_CA_EXCHANGE\0" "Private Key Archival\0" "Certificate Authority Private Key Archival\0"
     "szOID_KP_KEY_RECOVERY_AGENT\0" "Key Recovery Agent\0" "szOID_CERTIFICATE_TEMPLATE\0" "ms-cert-templ\0"
     "Microsoft certificate template\0" "Certificate Template Information\0" "Certificate Template\0"
     "msCertificateTemplate\0" "szOID_ENTERPRISE_OID_ROOT\0" "Dummy Signer\0" "szOID_APPLICATION_CERT_POLICIES\0"
     "ms-app-policies\0" "Microsoft Application Policies Extension\0" "Application Policies\0"
-    "Microsoft Certificate Policies\0" "szOID_APPLICATION_POLICY_MAPPINGS\0" "Application Policy Mappings\0",
+    "Microsoft Certificate Policies\0", "szOID_APPLICATION_POLICY_MAPPINGS\0" "Application Policy Mappings\0"
     "szOID_APPLICATION_POLICY_CONSTRAINTS\0" "Application Policy Constraints\0" "szOID_ARCHIVED_KEY_ATTR\0"
     "Archived Key\0" "szOID_CRL_SELF_CDP\0" "Published CRL Locations\0" "szOID_REQUIRE_CERT_CHAIN_POLICY\0"
     "Enforce Certificate Chain Policy\0" "szOID_ARCHIVED_KEY_CERT_HASH\0" "Archived Key Certificate Hash\0"
     "szOID_ISSUED_CERT_HASH\0" "szOID_DS_EMAIL_REPLICATION\0" "Directory Service Email Replication\0"
-    "szOID_REQUEST_CLIENT_INFO\0" "Client Information\0" "szOID_ENCRYPTED_KEY_HASH\0" "Encrypted Private Key\0"
-    "szOID_CERTSRV_CROSSCA_VERSION\0" "Cross CA Version\0", "szOID_ENROLL_CAXCHGCERT_HASH\0" "szOID_NTDS_REPLICATION\0"
-    "szOID_NTDS_CA_SECURITY_EXT\0" "ms-ntds-sec-ext\0" "Microsoft NTDS CA Extension\0" "szOID_NTDS_OBJECTSID\0"
-    "ms-ntds-obj-sid\0" "Microsoft NTDS AD objectSid\0" "Remote Desktop Authentication\0" "jurisdictionL\0"
-    "jurisdictionLocalityName\0" "szOID_EV_RDN_LOCALE\0" "Inc. Locality\0" "jurisdictionOfIncorporationLocalityName\0"
-    "jurisdictionST\0" "jurisdictionStateOrProvinceName\0" "szOID_EV_RDN_STATE_OR_PROVINCE\0" "Inc. State / Province\0"
-    "jurisdictionOfIncorporationStateOrProvinceName\0" "jurisdictionC\0", "jurisdictionCountryName\0"
-    "szOID_EV_RDN_COUNTRY\0" "Inc. Country\0" "jurisdictionOfIncorporationCountryName\0"
-    "szOID_KP_KERNEL_MODE_CODE_SIGNING\0" "Kernel Mode Code Signing\0" "msKernelCode\0" "BitLocker Drive Encryption\0"
-    "BitLocker Data Recovery Agent\0" "szOID_MICROSOFT_PUBLISHER_SIGNER\0" "authTimestamp\0" "StartTLS\0"
-    "LDAP_EXOP_START_TLS\0" "BLAKE2BMAC\0" "blake2bmac\0" "BLAKE2b512\0" "blake2b512\0" "BLAKE2B-512\0" "BLAKE2SMAC\0"
-    "blake2smac\0" "BLAKE2s256\0" "blake2s256\0" "BLAKE2S-256\0" "ucdavis\0" "prTable\0" "prEntry\0" "prIndex\0"
-    "prNames\0" "prMin\0" "prMax\0" "prCount\0" "prErrorFlag\0" "prErrMessage\0" "prErrFix\0", "prErrFixCmd\0"
-    "memory\0" "memIndex\0" "memErrorName\0" "memTotalSwap\0" "memAvailSwap\0" "memTotalReal\0" "memAvailReal\0"
-    "memTotalSwapTXT\0" "memAvailSwapTXT\0" "memTotalRealTXT\0" "memAvailRealTXT\0" "memTotalFree\0" "memMinimumSwap\0"
-    "memShared\0" "memBuffer\0" "memCached\0" "memUsedSwapTXT\0" "memUsedRealTXT\0" "memTotalSwapX\0" "memAvailSwapX\0"
-    "memTotalRealX\0" "memAvailRealX\0" "memTotalFreeX\0" "memMinimumSwapX\0" "memSharedX\0" "memBufferX\0"
-    "memCachedX\0" "memSysAvail\0" "memSwapError\0" "memSwapErrorMsg\0" "extTable\0" "extEntry\0" "extIndex\0"
-    "extNames\0" "extCommand\0" "extResult\0" "extOutput\0" "extErrFix\0" "extErrFixCmd\0" "dskTable\0", "dskEntry\0"
-    "dskIndex\0" "dskPath\0" "dskDevice\0" "dskMinimum\0" "dskMinPercent\0" "dskTotal\0" "dskAvail\0" "dskUsed\0"
-    "dskPercent\0" "dskPercentNode\0" "dskTotalLow\0" "dskTotalHigh\0" "dskAvailLow\0" "dskAvailHigh\0" "dskUsedLow\0"
-    "dskUsedHigh\0" "dskErrorFlag\0" "dskErrorMsg\0" "laTable\0" "laEntry\0" "laIndex\0" "laNames\0" "laLoad\0"
-    "laConfig\0" "laLoadInt\0" "laLoadFloat\0" "laErrorFlag\0" "laErrMessage\0" "systemStats\0" "ssIndex\0"
-    "ssErrorName\0" "ssSwapIn\0" "ssSwapOut\0" "ssIOSent\0" "ssIOReceive\0" "ssSysInterrupts\0" "ssSysContext\0"
-    "ssCpuUser\0" "ssCpuSystem\0" "ssCpuIdle\0" "ssCpuRawUser\0" "ssCpuRawNice\0" "ssCpuRawSystem\0" "ssCpuRawIdle\0"
-    "ssCpuRawWait\0", "ssCpuRawKernel\0" "ssCpuRawInterrupt\0" "ssIORawSent\0" "ssIORawReceived\0" "ssRawInterrupts\0"
-    "ssRawContexts\0" "ssCpuRawSoftIRQ\0" "ssRawSwapIn\0" "ssRawSwapOut\0" "ssCpuRawSteal\0" "ssCpuRawGuest\0"
-    "ssCpuRawGuestNice\0" "ssCpuNumCpus\0" "ucdInternal\0" "ucdExperimental\0" "ucdIpFwAccMIB\0" "ipFwAccTable\0"
-    "ipFwAccEntry\0" "ipFwAccIndex\0" "ipFwAccSrcAddr\0" "ipFwAccSrcNetMask\0" "ipFwAccDstAddr\0" "ipFwAccDstNetMask\0"
-    "ipFwAccViaName\0" "ipFwAccViaAddr\0" "ipFwAccProto\0" "ipFwAccBidir\0" "ipFwAccDir\0" "ipFwAccBytes\0"
-    "ipFwAccPackets\0" "ipFwAccNrSrcPorts\0" "ipFwAccNrDstPorts\0" "ipFwAccSrcIsRange\0" "ipFwAccDstIsRange\0",
-    "ipFwAccPort1\0" "ipFwAccPort2\0" "ipFwAccPort3\0" "ipFwAccPort4\0" "ipFwAccPort5\0" "ipFwAccPort6\0"
-    "ipFwAccPort7\0" "ipFwAccPort8\0" "ipFwAccPort9\0" "ipFwAccPort10\0" "ucdDlmodMIB\0" "dlmodNextIndex\0"
-    "dlmodTable\0" "dlmodEntry\0" "dlmodIndex\0" "dlmodName\0" "dlmodPath\0" "dlmodError\0" "dlmodStatus\0"
-    "ucdDiskIOMIB\0" "diskIOTable\0" "diskIOEntry\0" "diskIOIndex\0" "diskIODevice\0" "diskIONRead\0" "diskIONWritten\0"
-    "diskIOReads\0" "diskIOWrites\0" "diskIOLA1\0" "diskIOLA5\0" "diskIOLA15\0" "diskIONReadX\0" "diskIONWrittenX\0"
-    "diskIOBusyTime\0" "lmSensors\0" "lmSensorsMIB\0" "lmTempSensorsTable\0" "lmTempSensorsEntry\0"
-    "lmTempSensorsIndex\0", "lmTempSensorsDevice\0" "lmTempSensorsValue\0" "lmFanSensorsTable\0" "lmFanSensorsEntry\0"
+    "szOID_REQUEST_CLIENT_INFO\0" "Client Information\0" "microsoft_request_client_info\0", "szOID_ENCRYPTED_KEY_HASH\0"
+    "Encrypted Private Key\0" "szOID_CERTSRV_CROSSCA_VERSION\0" "Cross CA Version\0" "szOID_ENROLL_CAXCHGCERT_HASH\0"
+    "szOID_NTDS_REPLICATION\0" "szOID_NTDS_CA_SECURITY_EXT\0" "ms-ntds-sec-ext\0" "Microsoft NTDS CA Extension\0"
+    "szOID_NTDS_OBJECTSID\0" "ms-ntds-obj-sid\0" "Microsoft NTDS AD objectSid\0" "Remote Desktop Authentication\0"
+    "jurisdictionL\0" "jurisdictionLocalityName\0" "szOID_EV_RDN_LOCALE\0" "Inc. Locality\0"
+    "jurisdictionOfIncorporationLocalityName\0" "incorporation_locality\0" "jurisdictionST\0"
+    "jurisdictionStateOrProvinceName\0", "szOID_EV_RDN_STATE_OR_PROVINCE\0" "Inc. State / Province\0"
+    "jurisdictionOfIncorporationStateOrProvinceName\0" "incorporation_state_or_province\0" "jurisdictionC\0"
+    "jurisdictionCountryName\0" "szOID_EV_RDN_COUNTRY\0" "Inc. Country\0" "jurisdictionOfIncorporationCountryName\0"
+    "incorporation_country\0" "szOID_KP_KERNEL_MODE_CODE_SIGNING\0" "Kernel Mode Code Signing\0" "msKernelCode\0"
+    "MicrosoftKernelCodeSigning\0" "ExtKeyUsageMicrosoftKernelCodeSigning\0" "BitLocker Drive Encryption\0"
+    "BitLocker Data Recovery Agent\0" "szOID_MICROSOFT_PUBLISHER_SIGNER\0" "authTimestamp\0", "timing_metrics\0"
+    "timing_policy\0" "StartTLS\0" "LDAP_EXOP_START_TLS\0" "BLAKE2BMAC\0" "blake2bmac\0" "BLAKE2b512\0" "blake2b512\0"
+    "BLAKE2B-512\0" "BLAKE2SMAC\0" "blake2smac\0" "BLAKE2s256\0" "blake2s256\0" "BLAKE2S-256\0" "ucdavis\0" "prTable\0"
+    "prEntry\0" "prIndex\0" "prNames\0" "prMin\0" "prMax\0" "prCount\0" "prErrorFlag\0" "prErrMessage\0" "prErrFix\0"
+    "prErrFixCmd\0" "memory\0" "memIndex\0" "memErrorName\0" "memTotalSwap\0" "memAvailSwap\0" "memTotalReal\0"
+    "memAvailReal\0" "memTotalSwapTXT\0" "memAvailSwapTXT\0" "memTotalRealTXT\0" "memAvailRealTXT\0" "memTotalFree\0"
+    "memMinimumSwap\0" "memShared\0" "memBuffer\0" "memCached\0" "memUsedSwapTXT\0" "memUsedRealTXT\0",
+    "memTotalSwapX\0" "memAvailSwapX\0" "memTotalRealX\0" "memAvailRealX\0" "memTotalFreeX\0" "memMinimumSwapX\0"
+    "memSharedX\0" "memBufferX\0" "memCachedX\0" "memSysAvail\0" "memSwapError\0" "memSwapErrorMsg\0" "extTable\0"
+    "extEntry\0" "extIndex\0" "extNames\0" "extCommand\0" "extResult\0" "extOutput\0" "extErrFix\0" "extErrFixCmd\0"
+    "dskTable\0" "dskEntry\0" "dskIndex\0" "dskPath\0" "dskDevice\0" "dskMinimum\0" "dskMinPercent\0" "dskTotal\0"
+    "dskAvail\0" "dskUsed\0" "dskPercent\0" "dskPercentNode\0" "dskTotalLow\0" "dskTotalHigh\0" "dskAvailLow\0"
+    "dskAvailHigh\0" "dskUsedLow\0" "dskUsedHigh\0" "dskErrorFlag\0" "dskErrorMsg\0" "laTable\0" "laEntry\0" "laIndex\0"
+    "laNames\0" "laLoad\0", "laConfig\0" "laLoadInt\0" "laLoadFloat\0" "laErrorFlag\0" "laErrMessage\0" "systemStats\0"
+    "ssIndex\0" "ssErrorName\0" "ssSwapIn\0" "ssSwapOut\0" "ssIOSent\0" "ssIOReceive\0" "ssSysInterrupts\0"
+    "ssSysContext\0" "ssCpuUser\0" "ssCpuSystem\0" "ssCpuIdle\0" "ssCpuRawUser\0" "ssCpuRawNice\0" "ssCpuRawSystem\0"
+    "ssCpuRawIdle\0" "ssCpuRawWait\0" "ssCpuRawKernel\0" "ssCpuRawInterrupt\0" "ssIORawSent\0" "ssIORawReceived\0"
+    "ssRawInterrupts\0" "ssRawContexts\0" "ssCpuRawSoftIRQ\0" "ssRawSwapIn\0" "ssRawSwapOut\0" "ssCpuRawSteal\0"
+    "ssCpuRawGuest\0" "ssCpuRawGuestNice\0" "ssCpuNumCpus\0" "ucdInternal\0" "ucdExperimental\0" "ucdIpFwAccMIB\0"
+    "ipFwAccTable\0", "ipFwAccEntry\0" "ipFwAccIndex\0" "ipFwAccSrcAddr\0" "ipFwAccSrcNetMask\0" "ipFwAccDstAddr\0"
+    "ipFwAccDstNetMask\0" "ipFwAccViaName\0" "ipFwAccViaAddr\0" "ipFwAccProto\0" "ipFwAccBidir\0" "ipFwAccDir\0"
+    "ipFwAccBytes\0" "ipFwAccPackets\0" "ipFwAccNrSrcPorts\0" "ipFwAccNrDstPorts\0" "ipFwAccSrcIsRange\0"
+    "ipFwAccDstIsRange\0" "ipFwAccPort1\0" "ipFwAccPort2\0" "ipFwAccPort3\0" "ipFwAccPort4\0" "ipFwAccPort5\0"
+    "ipFwAccPort6\0" "ipFwAccPort7\0" "ipFwAccPort8\0" "ipFwAccPort9\0" "ipFwAccPort10\0" "ucdDlmodMIB\0"
+    "dlmodNextIndex\0" "dlmodTable\0" "dlmodEntry\0" "dlmodIndex\0" "dlmodName\0" "dlmodPath\0" "dlmodError\0"
+    "dlmodStatus\0" "ucdDiskIOMIB\0", "diskIOTable\0" "diskIOEntry\0" "diskIOIndex\0" "diskIODevice\0" "diskIONRead\0"
+    "diskIONWritten\0" "diskIOReads\0" "diskIOWrites\0" "diskIOLA1\0" "diskIOLA5\0" "diskIOLA15\0" "diskIONReadX\0"
+    "diskIONWrittenX\0" "diskIOBusyTime\0" "lmSensors\0" "lmSensorsMIB\0" "lmTempSensorsTable\0" "lmTempSensorsEntry\0"
+    "lmTempSensorsIndex\0" "lmTempSensorsDevice\0" "lmTempSensorsValue\0" "lmFanSensorsTable\0" "lmFanSensorsEntry\0"
     "lmFanSensorsIndex\0" "lmFanSensorsDevice\0" "lmFanSensorsValue\0" "lmVoltSensorsTable\0" "lmVoltSensorsEntry\0"
-    "lmVoltSensorsIndex\0" "lmVoltSensorsDevice\0" "lmVoltSensorsValue\0" "lmMiscSensorsTable\0" "lmMiscSensorsEntry\0"
+    "lmVoltSensorsIndex\0" "lmVoltSensorsDevice\0" "lmVoltSensorsValue\0" "lmMiscSensorsTable\0", "lmMiscSensorsEntry\0"
     "lmMiscSensorsIndex\0" "lmMiscSensorsDevice\0" "lmMiscSensorsValue\0" "ucdDemoMIB\0" "ucdDemoMIBObjects\0"
     "ucdDemoPublic\0" "ucdDemoResetKeys\0" "ucdDemoPublicString\0" "ucdDemoUserList\0" "ucdDemoPassphrase\0"
-    "fileTable\0" "fileEntry\0" "fileIndex\0" "fileName\0" "fileSize\0" "fileMax\0" "fileErrorFlag\0", "fileErrorMsg\0"
+    "fileTable\0" "fileEntry\0" "fileIndex\0" "fileName\0" "fileSize\0" "fileMax\0" "fileErrorFlag\0" "fileErrorMsg\0"
     "logMatch\0" "logMatchMaxEntries\0" "logMatchTable\0" "logMatchEntry\0" "logMatchIndex\0" "logMatchName\0"
     "logMatchFilename\0" "logMatchRegEx\0" "logMatchGlobalCounter\0" "logMatchGlobalCount\0" "logMatchCurrentCounter\0"
-    "logMatchCurrentCount\0" "logMatchCounter\0" "logMatchCount\0" "logMatchCycle\0" "logMatchErrorFlag\0"
+    "logMatchCurrentCount\0" "logMatchCounter\0" "logMatchCount\0", "logMatchCycle\0" "logMatchErrorFlag\0"
     "logMatchRegExCompilation\0" "version\0" "versionIndex\0" "versionTag\0" "versionDate\0" "versionCDate\0"
     "versionIdent\0" "versionConfigureOptions\0" "versionClearCache\0" "versionUpdateConfig\0" "versionRestartAgent\0"
-    "versionSavePersistentData\0" "versionDoDebugging\0" "snmperrs\0", "snmperrIndex\0" "snmperrNames\0"
+    "versionSavePersistentData\0" "versionDoDebugging\0" "snmperrs\0" "snmperrIndex\0" "snmperrNames\0"
     "snmperrErrorFlag\0" "snmperrErrMessage\0" "mrTable\0" "mrEntry\0" "mrIndex\0" "mrModuleName\0" "ucdSnmpAgent\0"
-    "netbsd1\0" "ucdTraps\0" "ucdStart\0" "ucdShutdown\0" "BF-CBC\0" "bf-cbc\0" "caseExactIA5SubstringsMatch\0"
-    "entry\0" "children\0" "OpenLDAProotDSE\0" "LDAProotDSE\0" "OpenLDAPorg\0" "OpenLDAPou\0" "OpenLDAPperson\0"
-    "OpenLDAPdisplayableObject\0" "LDAP_FEATURE_ALL_OP_ATTRS\0" "LDAP_FEATURE_ABSOLUTE_FILTERS\0"
-    "LDAP_FEATURE_LANGUAGE_TAG_OPTIONS\0" "LDAP_FEATURE_LANGUAGE_RANGE_OPTIONS\0" "LDAP_SYNC_OID\0"
-    "LDAP_CONTROL_SUBENTRIES\0" "LDAP_EXOP_MODIFY_PASSWD\0" "LDAP_EXOP_WHO_AM_I\0", "configContext\0" "dgIdentity\0"
-    "dgAuthz\0" "dgMemberOf\0" "dgIdentityAux\0" "AttCertPath\0" "PolicySyntax\0" "RoleSyntax\0" "pwdCheckModule\0"
-    "pwdCheckModuleArg\0" "pwdPolicyChecker\0" "namedObject\0" "namedPolicy\0" "netSnmp\0" "netSnmpObjects\0"
-    "nsVersion\0" "nsMibRegistry\0" "nsModuleTable\0" "nsModuleEntry\0" "nsmContextName\0" "nsmRegistrationPoint\0"
-    "nsmRegistrationPriority\0" "nsModuleName\0" "nsModuleModes\0" "nsModuleTimeout\0" "nsExtensions\0"
-    "netSnmpExtendMIB\0" "nsExtendObjects\0" "nsExtendNumEntries\0" "nsExtendConfigTable\0" "nsExtendConfigEntry\0"
-    "nsExtendToken\0" "nsExtendCommand\0" "nsExtendArgs\0" "nsExtendInput\0", "nsExtendCacheTime\0" "nsExtendExecType\0"
-    "nsExtendRunType\0" "nsExtendStorage\0" "nsExtendStatus\0" "nsExtendOutput1Table\0" "nsExtendOutput1Entry\0"
-    "nsExtendOutput1Line\0" "nsExtendOutputFull\0" "nsExtendOutNumLines\0" "nsExtendResult\0" "nsExtendOutput2Table\0"
-    "nsExtendOutput2Entry\0" "nsExtendLineIndex\0" "nsExtendOutLine\0" "nsExtendGroups\0" "nsExtendConfigGroup\0"
-    "nsExtendOutputGroup\0" "nsDLMod\0" "nsCache\0" "nsCacheDefaultTimeout\0" "nsCacheEnabled\0" "nsCacheTable\0"
-    "nsCacheEntry\0" "nsCachedOID\0" "nsCacheTimeout\0" "nsCacheStatus\0" "nsErrorHistory\0" "nsConfiguration\0"
-    "nsConfigDebug\0" "nsDebugEnabled\0", "nsDebugOutputAll\0" "nsDebugDumpPdu\0" "nsDebugTokenTable\0"
-    "nsDebugTokenEntry\0" "nsDebugTokenPrefix\0" "nsDebugTokenStatus\0" "nsConfigLogging\0" "nsLoggingTable\0"
-    "nsLoggingEntry\0" "nsLogLevel\0" "nsLogToken\0" "nsLogType\0" "nsLogMaxLevel\0" "nsLogStatus\0" "nsTransactions\0"
-    "nsTransactionTable\0" "nsTransactionEntry\0" "nsTransactionID\0" "nsTransactionMode\0" "netSnmpVacmMIB\0"
-    "nsVacmAccessTable\0" "nsVacmAccessEntry\0" "nsVacmAuthType\0" "nsVacmContextMatch\0" "nsVacmViewName\0"
-    "nsVacmStorageType\0" "nsVacmStatus\0" "netSnmpExamples\0" "netSnmpExampleScalars\0" "netSnmpExampleInteger\0",
-    "netSnmpExampleSleeper\0" "netSnmpExampleString\0" "netSnmpExampleTables\0" "netSnmpIETFWGTable\0"
-    "netSnmpIETFWGEntry\0" "nsIETFWGName\0" "nsIETFWGChair1\0" "nsIETFWGChair2\0" "netSnmpHostsTable\0"
-    "netSnmpHostsEntry\0" "netSnmpHostName\0" "netSnmpHostAddressType\0" "netSnmpHostAddress\0" "netSnmpHostStorage\0"
-    "netSnmpHostRowStatus\0" "netSnmpExampleNotifications\0" "netSnmpExampleNotificationPrefix\0"
-    "netSnmpExampleHeartbeatNotification\0" "netSnmpExampleNotification\0" "netSnmpExampleNotificationObjects\0"
-    "netSnmpExampleHeartbeatRate\0" "netSnmpExampleHeartbeatName\0", "netSnmpPassExamples\0" "netSnmpPassString\0"
-    "netSnmpPassTable\0" "netSnmpPassEntry\0" "netSnmpPassIndex\0" "netSnmpPassInteger\0" "netSnmpPassOID\0"
-    "netSnmpPassTimeTicks\0" "netSnmpPassIpAddress\0" "netSnmpPassCounter\0" "netSnmpPassGauge\0"
-    "netSnmpPassCounter64\0" "netSnmpPassInteger64\0" "netSnmpPassOIDValue\0" "netSnmpEnumerations\0"
-    "netSnmpModuleIDs\0" "netSnmpTCs\0" "netSnmpAgentMIB\0" "netSnmpAgentOIDs\0" "netbsd\0" "netSnmpDomains\0"
-    "netSnmpTCPDomain\0" "netSnmpUnixDomain\0" "netSnmpAAL5PVCDomain\0" "netSnmpUDPIPv6Domain\0"
-    "netSnmpTCPIPv6Domain\0" "netSnmpCallbackDomain\0" "netSnmpAliasDomain\0", "netSnmpDTLSUDPDomain\0"
-    "netSnmpDTLSSCTPDomain\0" "netSnmpTLSTCPDomain\0" "netSnmpNotificationPrefix\0" "netSnmpNotifications\0"
-    "nsNotifyStart\0" "nsNotifyShutdown\0" "nsNotifyRestart\0" "netSnmpNotificationObjects\0" "netSnmpConformance\0"
-    "netSnmpCompliances\0" "netSnmpGroups\0" "nsModuleGroup\0" "nsCacheGroup\0" "nsConfigGroups\0" "nsDebugGroup\0"
-    "nsLoggingGroup\0" "nsTransactionGroup\0" "nsAgentNotifyGroup\0" "netSnmpExperimental\0" "netSnmpPlaypen\0"
-    "ct_precert_scts\0" "CT Precertificate SCTs\0" "SignedCertificateTimestampList\0" "Embedded SCTs\0"
-    "Embedded Signed Certificate Timestamps\0", "ct_precert_poison\0" "CT Precertificate Poison\0" "ctPoison\0"
+    "netbsd1\0" "ucdTraps\0" "ucdStart\0" "ucdShutdown\0" "id-attr-validation-parameters\0"
+    "id_attr_validation_parameters\0" "norEduOrgUniqueNumber\0", "norEduOrgUnitUniqueNumber\0" "norEduPersonBirthDate\0"
+    "norEduPersonLIN\0" "norEduPersonNIN\0" "norEduOrgAcronym\0" "norEduOrgUniqueIdentifier\0"
+    "norEduOrgUnitUniqueIdentifier\0" "federationFeideSchemaVersion\0" "norEduOrgSchemaVersion\0" "norEduOrgNIN\0"
+    "BF-CBC\0" "bf-cbc\0" "Curve25519Legacy\0" "cv25519\0" "caseExactIA5SubstringsMatch\0" "entry\0" "children\0"
+    "OpenLDAProotDSE\0" "LDAProotDSE\0" "OpenLDAPorg\0" "OpenLDAPou\0" "OpenLDAPperson\0" "OpenLDAPdisplayableObject\0"
+    "LDAP_FEATURE_ALL_OP_ATTRS\0" "LDAP_FEATURE_ABSOLUTE_FILTERS\0" "LDAP_FEATURE_LANGUAGE_TAG_OPTIONS\0",
+    "LDAP_FEATURE_LANGUAGE_RANGE_OPTIONS\0" "LDAP_SYNC_OID\0" "LDAP_CONTROL_SUBENTRIES\0" "LDAP_EXOP_MODIFY_PASSWD\0"
+    "LDAP_EXOP_WHO_AM_I\0" "configContext\0" "dgIdentity\0" "dgAuthz\0" "dgMemberOf\0" "dgIdentityAux\0" "AttCertPath\0"
+    "PolicySyntax\0" "RoleSyntax\0" "pwdCheckModule\0" "pwdCheckModuleArg\0" "pwdPolicyChecker\0" "krb5PrincipalName\0"
+    "krb5KeyVersionNumber\0" "krb5MaxLife\0" "krb5MaxRenew\0" "krb5KDCFlags\0" "krb5EncryptionType\0" "krb5ValidStart\0"
+    "krb5ValidEnd\0" "krb5PasswordEnd\0" "krb5Key\0" "krb5PrincipalRealm\0" "krb5RealmName\0" "krb5Principal\0"
+    "krb5KDCEntry\0" "krb5Realm\0" "krbPwdMaxFailure\0", "krbPwdFailureCountInterval\0" "krbPwdLockoutDuration\0"
+    "krbAllowedToDelegateTo\0" "krbLastAdminUnlock\0" "namedObject\0" "namedPolicy\0" "eduPersonAffiliation\0"
+    "eduPersonNickName\0" "eduPersonOrgDN\0" "eduPersonOrgUnitDN\0" "eduPersonPrimaryAffiliation\0"
+    "eduPersonPrincipalName\0" "eppn\0" "eduPersonEntitlement\0" "eduPersonPrimaryOrgUnitDN\0"
+    "eduPersonScopedAffiliation\0" "eduPersonTargetedID\0" "eduPersonAssurance\0" "eduPersonPrincipalNamePrior\0"
+    "eduPersonUniqueId\0" "eduPersonOrcid\0" "eduPerson\0" "eduOrgHomePageURI\0" "eduOrgIdentityAuthNPolicyURI\0"
+    "eduOrgLegalName\0" "eduOrgSuperiorURI\0", "eduOrgWhitePagesURI\0" "isMemberOf\0" "eduCourseOffering\0"
+    "eduCourseMember\0" "sambaGroupType\0" "sambaSID\0" "sambaNextUserRid\0" "sambaNextGroupRid\0"
+    "sambaPrimaryGroupSID\0" "sambaLMPassword\0" "sambaNTPassword\0" "sambaAcctFlags\0" "sambaPwdLastSet\0"
+    "sambaPwdCanChange\0" "sambaPwdMustChange\0" "sambaLogonTime\0" "sambaLogoffTime\0" "sambaKickoffTime\0"
+    "sambaHomeDrive\0" "sambaLogonScript\0" "sambaProfilePath\0" "sambaUserWorkstations\0" "sambaHomePath\0"
+    "sambaDomainName\0" "sambaNextRid\0" "sambaAlgorithmicRidBase\0" "sambaShareName\0" "sambaOptionName\0"
+    "sambaBoolOption\0" "sambaIntegerOption\0", "sambaStringOption\0" "sambaStringListOption\0" "sambaMungedDial\0"
+    "sambaBadPasswordCount\0" "sambaBadPasswordTime\0" "sambaSIDList\0" "sambaTrustFlags\0" "sambaPasswordHistory\0"
+    "sambaLogonHours\0" "sambaMinPwdLength\0" "sambaPwdHistoryLength\0" "sambaLogonToChgPwd\0" "sambaMaxPwdAge\0"
+    "sambaMinPwdAge\0" "sambaLockoutDuration\0" "sambaLockoutObservationWindow\0" "sambaLockoutThreshold\0"
+    "sambaForceLogoff\0" "sambaRefuseMachinePwdChange\0" "sambaClearTextPassword\0" "sambaPreviousClearTextPassword\0"
+    "sambaTrustType\0" "sambaTrustAttributes\0" "sambaTrustDirection\0" "sambaTrustPartner\0", "sambaFlatName\0"
+    "sambaTrustAuthOutgoing\0" "sambaTrustAuthIncoming\0" "sambaSecurityIdentifier\0" "sambaTrustForestTrustInfo\0"
+    "sambaTrustPosixOffset\0" "sambaSupportedEncryptionTypes\0" "sambaGroupMapping\0" "sambaDomain\0"
+    "sambaSamAccount\0" "sambaUnixIdPool\0" "sambaIdmapEntry\0" "sambaSidEntry\0" "sambaConfig\0" "sambaShare\0"
+    "sambaConfigOption\0" "sambaTrustPassword\0" "sambaTrustedDomainPassword\0" "sambaTrustedDomain\0" "netSnmp\0"
+    "netSnmpObjects\0" "nsVersion\0" "nsMibRegistry\0" "nsModuleTable\0" "nsModuleEntry\0" "nsmContextName\0"
+    "nsmRegistrationPoint\0" "nsmRegistrationPriority\0" "nsModuleName\0", "nsModuleModes\0" "nsModuleTimeout\0"
+    "nsExtensions\0" "netSnmpExtendMIB\0" "nsExtendObjects\0" "nsExtendNumEntries\0" "nsExtendConfigTable\0"
+    "nsExtendConfigEntry\0" "nsExtendToken\0" "nsExtendCommand\0" "nsExtendArgs\0" "nsExtendInput\0"
+    "nsExtendCacheTime\0" "nsExtendExecType\0" "nsExtendRunType\0" "nsExtendStorage\0" "nsExtendStatus\0"
+    "nsExtendOutput1Table\0" "nsExtendOutput1Entry\0" "nsExtendOutput1Line\0" "nsExtendOutputFull\0"
+    "nsExtendOutNumLines\0" "nsExtendResult\0" "nsExtendOutput2Table\0" "nsExtendOutput2Entry\0" "nsExtendLineIndex\0"
+    "nsExtendOutLine\0" "nsExtendGroups\0" "nsExtendConfigGroup\0", "nsExtendOutputGroup\0" "nsDLMod\0" "nsCache\0"
+    "nsCacheDefaultTimeout\0" "nsCacheEnabled\0" "nsCacheTable\0" "nsCacheEntry\0" "nsCachedOID\0" "nsCacheTimeout\0"
+    "nsCacheStatus\0" "nsErrorHistory\0" "nsConfiguration\0" "nsConfigDebug\0" "nsDebugEnabled\0" "nsDebugOutputAll\0"
+    "nsDebugDumpPdu\0" "nsDebugTokenTable\0" "nsDebugTokenEntry\0" "nsDebugTokenPrefix\0" "nsDebugTokenStatus\0"
+    "nsConfigLogging\0" "nsLoggingTable\0" "nsLoggingEntry\0" "nsLogLevel\0" "nsLogToken\0" "nsLogType\0"
+    "nsLogMaxLevel\0" "nsLogStatus\0" "nsTransactions\0" "nsTransactionTable\0" "nsTransactionEntry\0"
+    "nsTransactionID\0" "nsTransactionMode\0", "netSnmpVacmMIB\0" "nsVacmAccessTable\0" "nsVacmAccessEntry\0"
+    "nsVacmAuthType\0" "nsVacmContextMatch\0" "nsVacmViewName\0" "nsVacmStorageType\0" "nsVacmStatus\0"
+    "netSnmpExamples\0" "netSnmpExampleScalars\0" "netSnmpExampleInteger\0" "netSnmpExampleSleeper\0"
+    "netSnmpExampleString\0" "netSnmpExampleTables\0" "netSnmpIETFWGTable\0" "netSnmpIETFWGEntry\0" "nsIETFWGName\0"
+    "nsIETFWGChair1\0" "nsIETFWGChair2\0" "netSnmpHostsTable\0" "netSnmpHostsEntry\0" "netSnmpHostName\0"
+    "netSnmpHostAddressType\0" "netSnmpHostAddress\0" "netSnmpHostStorage\0" "netSnmpHostRowStatus\0"
+    "netSnmpExampleNotifications\0", "netSnmpExampleNotificationPrefix\0" "netSnmpExampleHeartbeatNotification\0"
+    "netSnmpExampleNotification\0" "netSnmpExampleNotificationObjects\0" "netSnmpExampleHeartbeatRate\0"
+    "netSnmpExampleHeartbeatName\0" "netSnmpPassExamples\0" "netSnmpPassString\0" "netSnmpPassTable\0"
+    "netSnmpPassEntry\0" "netSnmpPassIndex\0" "netSnmpPassInteger\0" "netSnmpPassOID\0" "netSnmpPassTimeTicks\0"
+    "netSnmpPassIpAddress\0" "netSnmpPassCounter\0" "netSnmpPassGauge\0" "netSnmpPassCounter64\0"
+    "netSnmpPassInteger64\0" "netSnmpPassOIDValue\0" "netSnmpEnumerations\0" "netSnmpModuleIDs\0" "netSnmpTCs\0",
+    "netSnmpAgentMIB\0" "netSnmpAgentOIDs\0" "netbsd\0" "netSnmpDomains\0" "netSnmpTCPDomain\0" "netSnmpUnixDomain\0"
+    "netSnmpAAL5PVCDomain\0" "netSnmpUDPIPv6Domain\0" "netSnmpTCPIPv6Domain\0" "netSnmpCallbackDomain\0"
+    "netSnmpAliasDomain\0" "netSnmpDTLSUDPDomain\0" "netSnmpDTLSSCTPDomain\0" "netSnmpTLSTCPDomain\0"
+    "netSnmpNotificationPrefix\0" "netSnmpNotifications\0" "nsNotifyStart\0" "nsNotifyShutdown\0" "nsNotifyRestart\0"
+    "netSnmpNotificationObjects\0" "netSnmpConformance\0" "netSnmpCompliances\0" "netSnmpGroups\0" "nsModuleGroup\0"
+    "nsCacheGroup\0" "nsConfigGroups\0" "nsDebugGroup\0" "nsLoggingGroup\0", "nsTransactionGroup\0"
+    "nsAgentNotifyGroup\0" "netSnmpExperimental\0" "netSnmpPlaypen\0" "ct_precert_scts\0" "CT Precertificate SCTs\0"
+    "SignedCertificateTimestampList\0" "Embedded SCTs\0" "Embedded Signed Certificate Timestamps\0"
+    "signed_certificate_timestamp_list\0" "ct_precert_poison\0" "CT Precertificate Poison\0" "ctPoison\0"
     "ct_precert_signer\0" "CT Precertificate Signer\0" "ct_cert_scts\0" "CT Certificate SCTs\0" "id-scrypt\0" "scrypt\0"
-    "Curve25519\0" "LDAP_CONTROL_X_SESSION_TRACKING\0" "id-kp-wisun-fan-device\0"
-    "Wi-SUN Alliance Field Area Network (FAN)\0" "security\0" "Security\0" "kerberosV5\0" "id-krb5\0" "id-pkinit-san\0"
-    "id-pkinit\0" "id-pkinit-authData\0" "id-pkinit-DHKeyData\0" "id-pkinit-rkeyData\0" "pkInitClientAuth\0"
-    "PKINIT Client Auth\0" "id-pkinit-KPClientAuth\0" "pkInitKDC\0" "Signing KDC Response\0" "id-pkinit-KPKdc\0"
-    "szOID_PKINIT_KP_KDC\0", "KDC Authentication\0" "id-pkinit-kdf\0" "id-pkinit-kdf-ah-sha1\0"
-    "id-pkinit-kdf-ah-sha256\0" "id-pkinit-kdf-ah-sha512\0" "id-pkinit-kdf-ah-sha384\0" "gss_mech_iakerb\0" "SPKM-3\0"
-    "SPNEGO\0" "snego\0" "PKIX\0" "szOID_PKIX\0" "id-pkix-mod\0" "id-pkix1-explicit-88\0" "id-pkix1-implicit-88\0"
-    "id-pkix1-explicit-93\0" "id-pkix1-implicit-93\0" "id-mod-crmf\0" "id-mod-cmc\0" "id-mod-kea-profile-88\0"
-    "id-mod-kea-profile-93\0" "id-mod-cmp\0" "id-mod-qualified-cert-88\0" "id-mod-qualified-cert-93\0"
-    "id-mod-attribute-cert\0" "id-mod-timestamp-protocol\0" "id-mod-ocsp\0" "id-mod-dvcs\0" "id-mod-cmp2000\0"
-    "id-mod-cmp2000-02\0", "id-mod-cmp2021-88\0" "id-mod-cmp2021-02\0" "szOID_PKIX_PE\0" "authorityInfoAccess\0"
-    "Authority Information Access\0" "szOID_AUTHORITY_INFO_ACCESS\0" "AuthInfoAccess\0" "biometricInfo\0"
-    "Biometric Info\0" "id-pe-biometricInfo\0" "szOID_BIOMETRIC_EXT\0" "qcStatements\0" "id-pe-qcStatements\0"
-    "szOID_QC_STATEMENTS_EXT\0" "ac-auditEntity\0" "ac-auditIdentity\0" "X509v3 Audit Identity\0" "Audit Identity\0"
-    "ac-targeting\0" "aaControls\0" "sbgp-ipAddrBlock\0" "id-pe-ipAddrBlocks\0" "sbgp-autonomousSysNum\0"
-    "id-pe-autonomousSysIds\0" "sbgp-routerIdentifier\0" "ac-proxying\0" "subjectInfoAccess\0",
-    "Subject Information Access\0" "szOID_SUBJECT_INFO_ACCESS\0" "Subject Info Access\0" "id-pe-logotype\0"
-    "szOID_LOGOTYPE_EXT\0" "id-pe-wlanSSID\0" "proxyCertInfo\0" "Proxy Certificate Information\0"
-    "id-pe-proxyCertInfo\0" "tlsfeature\0" "TLS Feature\0" "must-staple\0" "id-pe-tlsfeature\0"
+    "Curve25519\0" "Ed25519Legacy\0" "sudoUser\0" "sudoHost\0" "sudoCommand\0" "sudoRunAs\0" "sudoOption\0"
+    "sudoRunAsUser\0" "sudoRunAsGroup\0" "sudoNotBefore\0" "sudoNotAfter\0", "sudoOrder\0" "sudoRole\0"
+    "LDAP_CONTROL_X_SESSION_TRACKING\0" "sshPublicKey\0" "ldapPublicKey\0" "schacYearOfBirth\0" "schacMotherTongue\0"
+    "schacGender\0" "schacDateOfBirth\0" "schacPlaceOfBirth\0" "schacCountryOfCitizenship\0" "schacSn1\0" "schacSn2\0"
+    "schacPersonalTitle\0" "schacHomeOrganization\0" "schacHomeOrganizationType\0" "schacCountryOfResidence\0"
+    "schacUserPresenceID\0" "schacPersonalPosition\0" "schacPersonalUniqueCode\0" "schacPersonalUniqueID\0"
+    "schacExpiryDate\0" "schacUserPrivateAttribute\0" "schacUserStatus\0" "schacProjectMembership\0"
+    "schacProjectSpecificRole\0", "id-kp-wisun-fan-device\0" "Wi-SUN Alliance Field Area Network (FAN)\0"
+    "id-ce-hashOfRootKey\0" "security\0" "Security\0" "kerberosV5\0" "id-krb5\0" "id-pkinit-san\0" "id-pkinit\0"
+    "id-pkinit-authData\0" "id-pkinit-DHKeyData\0" "id-pkinit-rkeyData\0" "pkInitClientAuth\0" "PKINIT Client Auth\0"
+    "id-pkinit-KPClientAuth\0" "pkinit_kpclientauth\0" "pkInitKDC\0" "Signing KDC Response\0" "id-pkinit-KPKdc\0"
+    "szOID_PKINIT_KP_KDC\0" "KDC Authentication\0" "pkinit_kpkdc\0" "id-pkinit-kdf\0" "id-pkinit-kdf-ah-sha1\0"
+    "id-pkinit-kdf-ah-sha256\0" "id-pkinit-kdf-ah-sha512\0" "id-pkinit-kdf-ah-sha384\0" "gss_mech_iakerb\0", "SPKM-3\0"
+    "SPNEGO\0" "snego\0" "PKIX\0" "szOID_PKIX\0" "id_pkix\0" "id-pkix-mod\0" "id-pkix1-explicit-88\0"
+    "id-pkix1-implicit-88\0" "id-pkix1-explicit-93\0" "id-pkix1-implicit-93\0" "id-mod-crmf\0" "id-mod-cmc\0"
+    "id-mod-kea-profile-88\0" "id-mod-kea-profile-93\0" "id-mod-cmp\0" "id-mod-qualified-cert-88\0"
+    "id-mod-qualified-cert-93\0" "id-mod-attribute-cert\0" "id-mod-timestamp-protocol\0" "id-mod-ocsp\0" "id-mod-dvcs\0"
+    "id-mod-cmp2000\0" "id-mod-cmp2000-02\0" "id-mod-cmp2021-88\0" "id-mod-cmp2021-02\0" "szOID_PKIX_PE\0" "id_pe\0"
+    "authorityInfoAccess\0" "Authority Information Access\0" "szOID_AUTHORITY_INFO_ACCESS\0", "AuthInfoAccess\0"
+    "authority_information_access\0" "id_pe_authorityInfoAccess\0" "biometricInfo\0" "Biometric Info\0"
+    "id-pe-biometricInfo\0" "szOID_BIOMETRIC_EXT\0" "qcStatements\0" "id-pe-qcStatements\0" "szOID_QC_STATEMENTS_EXT\0"
+    "ac-auditEntity\0" "ac-auditIdentity\0" "X509v3 Audit Identity\0" "Audit Identity\0" "ac-targeting\0" "aaControls\0"
+    "sbgp-ipAddrBlock\0" "id-pe-ipAddrBlocks\0" "id_pe_ipAddrBlocks\0" "sbgp-autonomousSysNum\0"
+    "id-pe-autonomousSysIds\0" "id_pe_autonomousSysIds\0" "sbgp-routerIdentifier\0" "ac-proxying\0"
+    "subjectInfoAccess\0" "Subject Information Access\0", "szOID_SUBJECT_INFO_ACCESS\0" "Subject Info Access\0"
+    "subject_information_access\0" "id_pe_subjectInfoAccess\0" "id-pe-logotype\0" "szOID_LOGOTYPE_EXT\0"
+    "id-pe-wlanSSID\0" "proxyCertInfo\0" "Proxy Certificate Information\0" "id-pe-proxyCertInfo\0"
+    "id-pe-cmsContentConstraints\0" "id-pe-wrappedApexContinKey\0" "id-pe-clearanceConstraints\0"
+    "id-pe-authorityClearanceConstraints\0" "tlsfeature\0" "TLS Feature\0" "must-staple\0" "id-pe-tlsfeature\0"
     "szOID_TLS_FEATURES_EXT\0" "OCSP Stapling\0" "Online Certificate Status Protocol Stapling\0" "TLS Features\0"
-    "id-pe-mud-url\0" "id-pe-TNAuthList\0" "sbgp-ipAddrBlockv2\0" "id-pe-ipAddrBlocks-v2\0" "sbgp-autonomousSysNumv2\0"
-    "id-pe-autonomousSysIds-v2\0" "Policy Qualifier CPS\0" "szOID_PKIX_POLICY_QUALIFIER_CPS\0", "CPS\0"
-    "PKIX CPS Pointer Qualifier\0" "Policy Qualifier User Notice\0" "szOID_PKIX_POLICY_QUALIFIER_USERNOTICE\0"
-    "User Notice\0" "PKIX User Notice Qualifier\0" "textNotice\0" "szOID_PKIX_KP\0" "serverAuth\0"
-    "TLS Web Server Authentication\0" "szOID_PKIX_KP_SERVER_AUTH\0" "Server Authentication\0" "TLS WWW Server\0"
-    "TLS Web Server Authentication Certificate\0" "clientAuth\0" "TLS Web Client Authentication\0"
-    "szOID_PKIX_KP_CLIENT_AUTH\0" "Client Authentication\0" "TLS WWW Client\0"
-    "TLS Web Client Authentication Certificate\0" "codeSigning\0" "Code Signing\0" "szOID_PKIX_KP_CODE_SIGNING\0",
-    "Code Signing Certificate\0" "emailProtection\0" "E-mail Protection\0" "szOID_PKIX_KP_EMAIL_PROTECTION\0"
-    "Secure Email\0" "Email protection\0" "E-Mail Protection Certificate\0" "ipsecEndSystem\0" "IPSec End System\0"
-    "id-kp-ipsecEndSystem\0" "szOID_PKIX_KP_IPSEC_END_SYSTEM\0" "IP security end system\0" "ipsecTunnel\0"
-    "IPSec Tunnel\0" "id-kp-ipsecTunnel\0" "szOID_PKIX_KP_IPSEC_TUNNEL\0" "IP security tunnel termination\0"
-    "ipsecUser\0" "IPSec User\0" "id-kp-ipsecUser\0" "szOID_PKIX_KP_IPSEC_USER\0" "IP security user\0" "timeStamping\0"
-    "Time Stamping\0" "szOID_PKIX_KP_TIMESTAMP_SIGNING\0", "Time Stamping Certifcate\0" "OCSPSigning\0" "OCSP Signing\0"
-    "DVCS\0" "dvcs\0" "id-kp-eapOverPPP\0" "id-kp-eapOverLAN\0" "ipsecIKE\0" "ipsec Internet Key Exchange\0"
-    "Ipsec IKE\0" "IPsec IKE Certificate\0" "capwapAC\0" "Ctrl/provision WAP Access\0" "capwapWTP\0"
-    "Ctrl/Provision WAP Termination\0" "id-kp-sipDomain\0" "secureShellClient\0" "SSH Client\0"
-    "id-kp-secureShellClient\0" "secureShellServer\0" "SSH Server\0" "id-kp-secureShellServer\0" "sendRouter\0"
-    "Send Router\0" "sendProxiedRouter\0" "Send Proxied Router\0" "sendOwner\0" "Send Owner\0" "sendProxiedOwner\0"
-    "Send Proxied Owner\0" "cmcCA\0", "CMC Certificate Authority\0" "id-kp-cmcCA\0" "cmcRA\0"
-    "CMC Registration Authority\0" "id-kp-cmcRA\0" "id-kp-cmcArchive\0" "cmcArchive\0" "CMC Archive Server\0"
-    "id-kp-bgpsec-router\0" "BGPsec Router\0" "id-kp-BrandIndicatorforMessageIdentification\0"
+    "tls_feature\0" "id_pe_tlsfeature\0", "id-pe-mud-url\0" "id-pe-TNAuthList\0" "id_pe_TNAuthList\0"
+    "id-pe-JWTClaimConstraints\0" "sbgp-ipAddrBlockv2\0" "id-pe-ipAddrBlocks-v2\0" "sbgp-autonomousSysNumv2\0"
+    "id-pe-autonomousSysIds-v2\0" "id-pe-mudsigner\0" "id-pe-acmeIdentifier\0" "acmeIdentifier\0" "id_qt\0"
+    "Policy Qualifier CPS\0" "szOID_PKIX_POLICY_QUALIFIER_CPS\0" "CPS\0" "PKIX CPS Pointer Qualifier\0"
+    "certification_practice_statement\0" "id_qt_cps\0" "Policy Qualifier User Notice\0"
+    "szOID_PKIX_POLICY_QUALIFIER_USERNOTICE\0" "User Notice\0" "PKIX User Notice Qualifier\0" "user_notice\0"
+    "id_qt_unotice\0" "textNotice\0" "szOID_PKIX_KP\0", "id_kp\0" "serverAuth\0" "TLS Web Server Authentication\0"
+    "szOID_PKIX_KP_SERVER_AUTH\0" "Server Authentication\0" "TLS WWW Server\0"
+    "TLS Web Server Authentication Certificate\0" "ExtKeyUsageServerAuth\0" "server_auth\0" "id_kp_serverAuth\0"
+    "clientAuth\0" "TLS Web Client Authentication\0" "szOID_PKIX_KP_CLIENT_AUTH\0" "Client Authentication\0"
+    "TLS WWW Client\0" "TLS Web Client Authentication Certificate\0" "ExtKeyUsageClientAuth\0" "client_auth\0"
+    "id_kp_clientAuth\0" "codeSigning\0" "Code Signing\0" "szOID_PKIX_KP_CODE_SIGNING\0" "Code Signing Certificate\0"
+    "ExtKeyUsageCodeSigning\0", "code_signing\0" "id_kp_codeSigning\0" "emailProtection\0" "E-mail Protection\0"
+    "szOID_PKIX_KP_EMAIL_PROTECTION\0" "Secure Email\0" "Email protection\0" "E-Mail Protection Certificate\0"
+    "ExtKeyUsageEmailProtection\0" "email_protection\0" "id_kp_emailProtection\0" "ipsecEndSystem\0"
+    "IPSec End System\0" "id-kp-ipsecEndSystem\0" "szOID_PKIX_KP_IPSEC_END_SYSTEM\0" "IP security end system\0"
+    "ExtKeyUsageIPSECEndSystem\0" "ipsec_end_system\0" "id_kp_ipsecEndSystem\0" "ipsecTunnel\0" "IPSec Tunnel\0"
+    "id-kp-ipsecTunnel\0" "szOID_PKIX_KP_IPSEC_TUNNEL\0" "IP security tunnel termination\0", "ExtKeyUsageIPSECTunnel\0"
+    "ipsec_tunnel\0" "id_kp_ipsecTunnel\0" "ipsecUser\0" "IPSec User\0" "id-kp-ipsecUser\0" "szOID_PKIX_KP_IPSEC_USER\0"
+    "IP security user\0" "ExtKeyUsageIPSECUser\0" "ipsec_user\0" "id_kp_ipsecUser\0" "timeStamping\0" "Time Stamping\0"
+    "szOID_PKIX_KP_TIMESTAMP_SIGNING\0" "Time Stamping Certifcate\0" "ExtKeyUsageTimeStamping\0" "time_stamping\0"
+    "id_kp_timeStamping\0" "OCSPSigning\0" "OCSP Signing\0" "ExtKeyUsageOCSPSigning\0" "ocsp_signing\0"
+    "id_kp_OCSPSigning\0" "DVCS\0" "dvcs\0" "id-kp-eapOverPPP\0" "eap_over_ppp\0" "id-kp-eapOverLAN\0" "eap_over_lan\0"
+    "scvp_server\0" "scvp_client\0" "ipsecIKE\0", "ipsec Internet Key Exchange\0" "Ipsec IKE\0"
+    "IPsec IKE Certificate\0" "ipsec_ike\0" "capwapAC\0" "Ctrl/provision WAP Access\0" "capwap_ac\0" "capwapWTP\0"
+    "Ctrl/Provision WAP Termination\0" "capwap_wtp\0" "id-kp-sipDomain\0" "sip_domain\0" "secureShellClient\0"
+    "SSH Client\0" "id-kp-secureShellClient\0" "secure_shell_client\0" "id_kp_secureShellClient\0" "secureShellServer\0"
+    "SSH Server\0" "id-kp-secureShellServer\0" "secure_shell_server\0" "id_kp_secureShellServer\0" "sendRouter\0"
+    "Send Router\0" "send_router\0" "sendProxiedRouter\0" "Send Proxied Router\0" "send_proxied_router\0" "sendOwner\0"
+    "Send Owner\0", "send_owner\0" "sendProxiedOwner\0" "Send Proxied Owner\0" "send_proxied_owner\0" "cmcCA\0"
+    "CMC Certificate Authority\0" "id-kp-cmcCA\0" "cmc_ca\0" "cmcRA\0" "CMC Registration Authority\0" "id-kp-cmcRA\0"
+    "id-kp-cmcArchive\0" "cmc_ra\0" "cmcArchive\0" "CMC Archive Server\0" "cmc_archive\0" "id-kp-bgpsec-router\0"
+    "BGPsec Router\0" "bgpspec_router\0" "id-kp-BrandIndicatorforMessageIdentification\0"
     "Brand Indicator for Message Identification\0" "cmKGA\0" "Certificate Management Key Generation Authority\0"
-    "id-it-subscriptionRequest\0" "id-it-subscriptionResponse\0" "id-it-caCerts\0" "id-it-rootCaKeyUpdate\0"
-    "id-it-certReqTemplate\0" "id-it-rootCaCert\0" "id-it-certProfile\0" "id-it-crlStatusList\0" "id-it-crls\0",
+    "id-it-subscriptionRequest\0" "id-it-subscriptionResponse\0" "id-it-caCerts\0" "id-it-rootCaKeyUpdate\0",
+    "id-it-certReqTemplate\0" "id-it-rootCaCert\0" "id-it-certProfile\0" "id-it-crlStatusList\0" "id-it-crls\0"
     "id-regCtrl-altCertTemplate\0" "id-regCtrl-algId\0" "id-regCtrl-rsaKeyLen\0" "id-alg-des40\0"
     "id-alg-dh-sig-hmac-sha1\0" "id-dh-sig-hmac-sha1\0" "id-dhPop-static-sha1-hmac-sha1\0" "id-alg-dh-pop\0"
     "id-RSASSA-PSS-SHAKE128\0" "id-RSASSA-PSS-SHAKE256\0" "id-ecdsa-with-shake128\0" "id-ecdsa-with-shake256\0"
-    "id-on-personalData\0" "id-on-permanentIdentifier\0" "Permanent Identifier\0" "Hardware Module Name\0"
-    "id-on-xmppAddr\0" "XmppAddr\0" "id-on-SIM\0" "id-on-dnsSRV\0" "SRVName\0" "id-on-NAIRealm\0" "NAIRealm\0"
-    "id-on-SmtpUTF8Mailbox\0" "Smtp UTF8 Mailbox\0" "id-pda-dateOfBirth\0" "id-pda-placeOfBirth\0", "placeOfBirth\0"
-    "id-pda-gender\0" "gender\0" "id-pda-countryOfCitizenship\0" "countryOfCitizenship\0" "id-pda-countryOfResidence\0"
-    "countryOfResidence\0" "id-aca-role\0" "id-qcs-pkixQCSyntax-v1\0" "id-qcs-pkixQCSyntax-v2\0" "id-cct-crs\0"
-    "ipAddr-asNumber\0" "ipAddr-asNumberv2\0" "id-ri-ocsp-response\0" "id-ri-scvp\0" "id-ppl-anyLanguage\0"
-    "Any language\0" "id-ppl-inheritAll\0" "Inherit all\0" "id-ppl-independent\0" "Independent\0"
-    "szOID_PKIX_ACC_DESCR\0" "OCSP\0" "szOID_PKIX_OCSP\0" "Online Certificate Status Protocol (OCSP)\0"
-    "PKIX Online Certificate Status Protocol\0" "basicOCSPResponse\0", "Basic OCSP Response\0"
-    "szOID_PKIX_OCSP_BASIC_SIGNED_RESPONSE\0" "OCSPBasicResponse\0" "OCSP Basic Response\0" "Nonce\0" "OCSP Nonce\0"
-    "szOID_PKIX_OCSP_NONCE\0" "OCSPNonce\0" "OCSPNonceExt\0" "OCSP Nonce Extension\0" "CrlID\0" "OCSP CRL ID\0"
-    "acceptableResponses\0" "Acceptable OCSP Responses\0" "noCheck\0" "OCSP No Check\0" "szOID_PKIX_OCSP_NOCHECK\0"
-    "OCSPNoCheck\0" "OCSP No Check Extension\0" "archiveCutoff\0" "OCSP Archive Cutoff\0" "serviceLocator\0"
-    "OCSP Service Locator\0" "extendedStatus\0" "Extended OCSP Status\0" "valid\0" "path\0" "trustRoot\0" "Trust Root\0"
-    "caIssuers\0" "CA Issuers\0" "szOID_PKIX_CA_ISSUERS\0", "PKIX CA issuers access method\0" "ad_timestamping\0"
-    "AD Time Stamping\0" "szOID_PKIX_TIME_STAMPING\0" "AD_DVCS\0" "ad dvcs\0" "caRepository\0" "CA Repository\0"
-    "szOID_PKIX_CA_REPOSITORY\0" "id-ad-http-certs\0" "id-ad-http-crls\0" "rpkiManifest\0" "RPKI Manifest\0"
-    "id-ad-rpkiManifest\0" "signedObject\0" "Signed Object\0" "id-ad-signedObject\0" "id-ad-cmc\0" "rpkiNotify\0"
-    "RPKI Notify\0" "id-ad-stirTNList\0" "HMAC-MD5\0" "hmac-md5\0" "IPsec IKE End\0" "szOID_IPSEC_KP_IKE_INTERMEDIATE\0"
-    "IP security IKE intermediate\0" "Internet Key Exchange (IKE)\0" "IPsec IKE Intermediate\0" "LIPKEY\0"
-    "GSS_C_NT_ANONYMOUS\0", "GSS_C_NT_EXPORT_NAME\0" "snmpV2\0" "snmpv2\0" "SNMPv2\0" "snmpDomains\0" "snmpProxys\0"
-    "snmpModules\0" "snmpMIB\0" "snmpMIBObjects\0" "snmpTrap\0" "snmpTrapOID\0" "snmpTrapEnterprise\0" "snmpTraps\0"
-    "coldStart\0" "warmStart\0" "linkDown\0" "linkUp\0" "authenticationFailure\0" "snmpSet\0" "snmpSetSerialNo\0"
-    "snmpMIBConformance\0" "snmpMIBCompliances\0" "snmpBasicCompliance\0" "snmpBasicComplianceRev2\0" "snmpMIBGroups\0"
-    "snmpSetGroup\0" "systemGroup\0" "snmpBasicNotificationsGroup\0" "snmpGroup\0" "snmpCommunityGroup\0"
-    "snmpObsoleteGroup\0" "snmpWarmStartNotificationGroup\0" "snmpNotificationGroup\0" "snmpFrameworkMIB\0",
-    "snmpFrameworkAdmin\0" "snmpAuthProtocols\0" "usmNoAuthProtocol\0" "usmHMACMD5AuthProtocol\0"
-    "usmHMACSHAAuthProtocol\0" "snmpPrivProtocols\0" "usmNoPrivProtocol\0" "usmDESPrivProtocol\0"
-    "snmpFrameworkMIBObjects\0" "snmpEngine\0" "snmpEngineID\0" "snmpEngineBoots\0" "snmpEngineTime\0"
-    "snmpEngineMaxMessageSize\0" "snmpUsmMIB\0" "usmMIBObjects\0" "usmStats\0" "usmStatsUnsupportedSecLevels\0"
-    "usmStatsNotInTimeWindows\0" "usmStatsUnknownUserNames\0" "usmStatsUnknownEngineIDs\0" "usmStatsWrongDigests\0"
-    "usmStatsDecryptionErrors\0" "usmUser\0" "usmUserSpinLock\0" "usmUserTable\0" "usmUserEntry\0", "usmUserEngineID\0"
-    "usmUserName\0" "usmUserSecurityName\0" "usmUserCloneFrom\0" "usmUserAuthProtocol\0" "usmUserAuthKeyChange\0"
+    "id-cmc-raIdentityWitness\0" "id-cmc-changeSubjectName\0" "id-cmc-responseBody\0" "id-on-personalData\0"
+    "id-on-permanentIdentifier\0" "Permanent Identifier\0" "Hardware Module Name\0", "id-on-xmppAddr\0" "XmppAddr\0"
+    "id-on-SIM\0" "id-on-dnsSRV\0" "SRVName\0" "id-on-NAIRealm\0" "NAIRealm\0" "id-on-SmtpUTF8Mailbox\0"
+    "Smtp UTF8 Mailbox\0" "id-pda-dateOfBirth\0" "pda_date_of_birth\0" "id-pda-placeOfBirth\0" "placeOfBirth\0"
+    "pda_place_of_birth\0" "id-pda-gender\0" "gender\0" "pda_gender\0" "id-pda-countryOfCitizenship\0"
+    "countryOfCitizenship\0" "pda_country_of_citizenship\0" "id-pda-countryOfResidence\0" "countryOfResidence\0"
+    "pda_country_of_residence\0" "authentication_info\0" "access_identity\0" "charging_identity\0" "id-aca-role\0"
+    "id-aca-wlanSSID\0" "id-qcs-pkixQCSyntax-v1\0", "id-qcs-pkixQCSyntax-v2\0" "id-cct-crs\0" "ipAddr-asNumber\0"
+    "ipAddr-asNumberv2\0" "id-ri-ocsp-response\0" "ocsp_response\0" "id-ri-scvp\0" "scvp\0" "id-logo-loyalty\0"
+    "id-logo-background\0" "id-logo-certImage\0" "id-ppl-anyLanguage\0" "Any language\0" "id-ppl-inheritAll\0"
+    "Inherit all\0" "id-ppl-independent\0" "Independent\0" "szOID_PKIX_ACC_DESCR\0" "id_ad\0" "OCSP\0"
+    "szOID_PKIX_OCSP\0" "Online Certificate Status Protocol (OCSP)\0" "PKIX Online Certificate Status Protocol\0"
+    "id_ad_ocsp\0" "id_pkix_ocsp\0" "basicOCSPResponse\0" "Basic OCSP Response\0"
+    "szOID_PKIX_OCSP_BASIC_SIGNED_RESPONSE\0", "OCSPBasicResponse\0" "OCSP Basic Response\0" "basic_ocsp_response\0"
+    "id_pkix_ocsp_basic\0" "Nonce\0" "OCSP Nonce\0" "szOID_PKIX_OCSP_NONCE\0" "OCSPNonce\0" "OCSPNonceExt\0"
+    "OCSP Nonce Extension\0" "id_pkix_ocsp_nonce\0" "CrlID\0" "OCSP CRL ID\0" "crl\0" "acceptableResponses\0"
+    "Acceptable OCSP Responses\0" "acceptable_responses\0" "noCheck\0" "OCSP No Check\0" "szOID_PKIX_OCSP_NOCHECK\0"
+    "OCSPNoCheck\0" "OCSP No Check Extension\0" "ocsp_no_check\0" "id_pkix_ocsp_nocheck\0" "archiveCutoff\0"
+    "OCSP Archive Cutoff\0" "archive_cutoff\0" "serviceLocator\0" "OCSP Service Locator\0" "service_locator\0"
+    "extendedStatus\0", "Extended OCSP Status\0" "preferred_signature_algorithms\0" "valid\0" "extended_revoke\0"
+    "path\0" "trustRoot\0" "Trust Root\0" "caIssuers\0" "CA Issuers\0" "szOID_PKIX_CA_ISSUERS\0"
+    "PKIX CA issuers access method\0" "ca_issuers\0" "id_ad_caIssuers\0" "ad_timestamping\0" "AD Time Stamping\0"
+    "szOID_PKIX_TIME_STAMPING\0" "id_ad_timeStamping\0" "AD_DVCS\0" "ad dvcs\0" "caRepository\0" "CA Repository\0"
+    "szOID_PKIX_CA_REPOSITORY\0" "ca_repository\0" "id_ad_caRepository\0" "id-ad-http-certs\0" "id-ad-http-crls\0"
+    "rpkiManifest\0" "RPKI Manifest\0" "id-ad-rpkiManifest\0" "signedObject\0" "Signed Object\0" "id-ad-signedObject\0",
+    "id-ad-cmc\0" "rpkiNotify\0" "RPKI Notify\0" "id-ad-stirTNList\0" "HMAC-MD5\0" "hmac-md5\0" "IPsec IKE End\0"
+    "szOID_IPSEC_KP_IKE_INTERMEDIATE\0" "IP security IKE intermediate\0" "Internet Key Exchange (IKE)\0"
+    "IPsec IKE Intermediate\0" "ike_intermediate\0" "LIPKEY\0" "GSS_C_NT_ANONYMOUS\0" "GSS_C_NT_EXPORT_NAME\0"
+    "snmpV2\0" "snmpv2\0" "SNMPv2\0" "snmpDomains\0" "snmpProxys\0" "snmpModules\0" "snmpMIB\0" "snmpMIBObjects\0"
+    "snmpTrap\0" "snmpTrapOID\0" "snmpTrapEnterprise\0" "snmpTraps\0" "coldStart\0" "warmStart\0" "linkDown\0"
+    "linkUp\0" "authenticationFailure\0" "snmpSet\0" "snmpSetSerialNo\0" "snmpMIBConformance\0" "snmpMIBCompliances\0",
+    "snmpBasicCompliance\0" "snmpBasicComplianceRev2\0" "snmpMIBGroups\0" "snmpSetGroup\0" "systemGroup\0"
+    "snmpBasicNotificationsGroup\0" "snmpGroup\0" "snmpCommunityGroup\0" "snmpObsoleteGroup\0"
+    "snmpWarmStartNotificationGroup\0" "snmpNotificationGroup\0" "snmpFrameworkMIB\0" "snmpFrameworkAdmin\0"
+    "snmpAuthProtocols\0" "usmNoAuthProtocol\0" "usmHMACMD5AuthProtocol\0" "usmHMACSHAAuthProtocol\0"
+    "snmpPrivProtocols\0" "usmNoPrivProtocol\0" "usmDESPrivProtocol\0" "snmpFrameworkMIBObjects\0" "snmpEngine\0"
+    "snmpEngineID\0" "snmpEngineBoots\0" "snmpEngineTime\0" "snmpEngineMaxMessageSize\0" "snmpUsmMIB\0",
+    "usmMIBObjects\0" "usmStats\0" "usmStatsUnsupportedSecLevels\0" "usmStatsNotInTimeWindows\0"
+    "usmStatsUnknownUserNames\0" "usmStatsUnknownEngineIDs\0" "usmStatsWrongDigests\0" "usmStatsDecryptionErrors\0"
+    "usmUser\0" "usmUserSpinLock\0" "usmUserTable\0" "usmUserEntry\0" "usmUserEngineID\0" "usmUserName\0"
+    "usmUserSecurityName\0" "usmUserCloneFrom\0" "usmUserAuthProtocol\0" "usmUserAuthKeyChange\0"
     "usmUserOwnAuthKeyChange\0" "usmUserPrivProtocol\0" "usmUserPrivKeyChange\0" "usmUserOwnPrivKeyChange\0"
-    "usmUserPublic\0" "usmUserStorageType\0" "usmUserStatus\0" "snmpVacmMIB\0" "vacmMIBObjects\0" "vacmContextTable\0"
+    "usmUserPublic\0" "usmUserStorageType\0" "usmUserStatus\0" "snmpVacmMIB\0" "vacmMIBObjects\0" "vacmContextTable\0",
     "vacmContextEntry\0" "vacmContextName\0" "vacmContextStatus\0" "vacmSecurityToGroupTable\0"
     "vacmSecurityToGroupEntry\0" "vacmSecurityModel\0" "vacmSecurityName\0" "vacmGroupName\0"
-    "vacmSecurityToGroupStorageType\0" "vacmSecurityToGroupStatus\0" "vacmAccessTable\0", "vacmAccessEntry\0"
+    "vacmSecurityToGroupStorageType\0" "vacmSecurityToGroupStatus\0" "vacmAccessTable\0" "vacmAccessEntry\0"
     "vacmAccessContextPrefix\0" "vacmAccessSecurityModel\0" "vacmAccessSecurityLevel\0" "vacmAccessContextMatch\0"
     "vacmAccessReadViewName\0" "vacmAccessWriteViewName\0" "vacmAccessNotifyViewName\0" "vacmAccessStorageType\0"
-    "vacmAccessStatus\0" "vacmMIBViews\0" "vacmViewSpinLock\0" "vacmViewTreeFamilyTable\0" "vacmViewTreeFamilyEntry\0"
+    "vacmAccessStatus\0" "vacmMIBViews\0" "vacmViewSpinLock\0" "vacmViewTreeFamilyTable\0", "vacmViewTreeFamilyEntry\0"
     "vacmViewTreeFamilyViewName\0" "vacmViewTreeFamilySubtree\0" "vacmViewTreeFamilyMask\0" "vacmViewTreeFamilyType\0"
     "vacmViewTreeFamilyStorageType\0" "vacmViewTreeFamilyStatus\0" "Mail\0" "mime-mhs\0" "MIME MHS\0"
-    "mime-mhs-headings\0", "id-hex-partial-message\0" "id-hex-multipart-message\0" "mime-mhs-bodies\0" "algorithm\0"
-    "RSA-NP-MD5\0" "md5WithRSA\0" "DES-ECB\0" "des-ecb\0" "DES-CBC\0" "des-cbc\0" "desCBC\0" "DES/CBC\0" "DES\0"
-    "DES-OFB\0" "des-ofb\0" "DES-CFB\0" "des-cfb\0" "rsaSignature\0" "DSA-old\0" "dsaEncryption-old\0" "DSA-SHA\0"
-    "dsaWithSHA\0" "RSA-SHA\0" "shaWithRSAEncryption\0" "DES-EDE\0" "des-ede\0" "DES-EDE-ECB\0" "DESede\0" "SHA\0"
-    "sha\0" "SHA-1\0" "SHA1\0" "sha1\0" "SSL3-SHA1\0" "sha_1\0" "DSA-SHA1-old\0" "dsaWithSHA1-old\0" "RSA-SHA1-2\0"
-    "sha1WithRSA\0" "RIPEMD160\0" "ripemd160\0" "RIPEMD\0" "RIPEMD-160\0" "RMD160\0" "RSA-RIPEMD160\0"
-    "ripemd160WithRSA\0" "RSA-RMD160\0" "x509ExtAdmission\0", "Professional Information or basis for Admission\0"
-    "Admissions\0" "SXNetID\0" "Strong Extranet ID\0" "X25519\0" "ECDH (X25519)\0" "X448\0" "ECDH (X448)\0" "Ed25519\0"
-    "ED25519\0" "EdDSA-Ed25519\0" "EdDSA (Ed25519)\0" "Ed448\0" "ED448\0" "EdDSA-Ed448\0" "EdDSA (Ed448)\0" "ieee\0"
-    "ieee-siswg\0" "IEEE Security in Storage Working Group\0" "AES-128-XTS\0" "aes-128-xts\0" "AES-256-XTS\0"
-    "aes-256-xts\0" "certicom-arc\0" "K-163\0" "NIST K-163\0" "sect163r1\0" "sect239k1\0" "sect113r1\0" "sect113r2\0"
-    "secp112r1\0" "secp112r2\0" "secp160r1\0" "secp160k1\0" "secp256k1\0" "B-163\0" "NIST B-163\0" "K-283\0"
-    "NIST K-283\0" "B-283\0" "NIST B-283\0" "sect131r1\0" "sect131r2\0", "sect193r1\0" "sect193r2\0" "K-233\0"
-    "NIST K-233\0" "B-233\0" "NIST B-233\0" "secp128r1\0" "secp128r2\0" "secp160r2\0" "secp192k1\0" "secp224k1\0"
-    "P-224\0" "NIST P-224\0" "P224\0" "P-384\0" "nistp384\0" "NIST P-384\0" "P384\0" "P-521\0" "nistp521\0"
-    "NIST P-521\0" "P521\0" "K-409\0" "NIST K-409\0" "B-409\0" "NIST B-409\0" "K-571\0" "NIST K-571\0" "B-571\0"
-    "NIST B-571\0" "ECDH-ES\0" "ECDH\0" "X500\0" "directory services (X.500)\0" "selected-attribute-types\0"
-    "Selected Attribute Types\0" "clearance\0" "X509\0" "aliasedEntryName\0" "id-at-commonName\0" "Common Name\0"
-    "X520 Common Name\0" "id-at-surname\0" "id-at-serialNumber\0" "Serial Number\0" "X520 Serial Number\0",
-    "id-at-countryName\0" "X520 Country Name\0" "id-at-localityName\0" "X520 Locality Name\0"
-    "id-at-stateOrProvinceName\0" "S\0" "State / Province\0" "State/Province\0" "StateName\0"
-    "X520 State Or Province Name\0" "X520 Street Address\0" "id-at-organizationName\0" "OrgName\0"
-    "X520 Organization Name\0" "id-at-organizationalUnitName\0" "Organizational Unit\0" "OrgUnitName\0"
-    "X520 Organizational Unit Name\0" "id-at-title\0" "T\0" "Business Category\0" "Postal Address\0" "Postal Code\0"
-    "POBox\0" "PO Box\0" "c-PhysicalDeliveryOfficeName\0" "Phone Number\0" "fax\0" "Fax Number\0" "See Also\0"
-    "User Password\0", "id-at-userCertificate\0" "User Certificate\0" "CA Certificate\0" "Certificate Revocation List\0"
-    "id-at-name\0" "id-at-givenName\0" "G\0" "Given Name\0" "X520 Given Name\0" "id-at-initials\0" "I\0"
-    "id-at-generationQualifier\0" "Generation Qualifier\0" "Unique Identifier\0" "id-at-dnQualifier\0" "DN Qualifier\0"
-    "X520 DN Qualifier\0" "Distinguished Name\0" "House Identifier\0" "attributeCertificateAttribute\0"
-    "attributeCertificateRevocationList\0" "aACertificate\0" "attributeDescriptorCertificate\0"
-    "attributeAuthorityRevocationList\0" "id-at-pseudonym\0" "id-at-pkiPath\0" "privPolicy\0" "role\0"
-    "delegationPath\0", "protPrivPolicy\0" "xmlPrivilegeInfo\0" "xmlPrivPolicy\0" "organizationIdentifier\0" "c3\0"
+    "mime-mhs-headings\0" "id-hex-partial-message\0" "id-hex-multipart-message\0" "mime-mhs-bodies\0" "oiw\0"
+    "algorithm\0" "RSA-NP-MD5\0" "md5WithRSA\0" "DES-ECB\0" "des-ecb\0" "DES-CBC\0" "des-cbc\0" "desCBC\0" "DES/CBC\0"
+    "DES\0" "DES-OFB\0" "des-ofb\0" "DES-CFB\0" "des-cfb\0" "des_mac\0" "rsaSignature\0" "DSA-old\0"
+    "dsaEncryption-old\0" "DSA-SHA\0" "dsaWithSHA\0" "RSA-SHA\0" "shaWithRSAEncryption\0" "DES-EDE\0", "des-ede\0"
+    "DES-EDE-ECB\0" "DESede\0" "SHA\0" "sha\0" "SHA-1\0" "SHA1\0" "sha1\0" "SSL3-SHA1\0" "sha_1\0" "id_sha1\0"
+    "DSA-SHA1-old\0" "dsaWithSHA1-old\0" "RSA-SHA1-2\0" "sha1WithRSA\0" "id-mmhs-CDT\0" "RIPEMD160\0" "ripemd160\0"
+    "RIPEMD\0" "RIPEMD-160\0" "RMD160\0" "RSA-RIPEMD160\0" "ripemd160WithRSA\0" "RSA-RMD160\0" "x509ExtAdmission\0"
+    "Professional Information or basis for Admission\0" "Admissions\0" "SXNetID\0" "Strong Extranet ID\0" "X25519\0"
+    "ECDH (X25519)\0" "id_X25519\0" "X448\0" "ECDH (X448)\0" "id_X448\0" "Ed25519\0" "ED25519\0" "EdDSA-Ed25519\0"
+    "EdDSA (Ed25519)\0" "PureEd25519\0" "id_Ed25519\0" "Ed448\0" "ED448\0" "EdDSA-Ed448\0" "EdDSA (Ed448)\0"
+    "id_Ed448\0" "ieee\0", "ieee-siswg\0" "IEEE Security in Storage Working Group\0" "AES-128-XTS\0" "aes-128-xts\0"
+    "AES-256-XTS\0" "aes-256-xts\0" "certicom-arc\0" "K-163\0" "NIST K-163\0" "nistk163\0" "sect163r1\0" "sect239k1\0"
+    "sect113r1\0" "sect113r2\0" "secp112r1\0" "secp112r2\0" "secp160r1\0" "secp160k1\0" "secp256k1\0" "B-163\0"
+    "NIST B-163\0" "K-283\0" "NIST K-283\0" "nistk283\0" "B-283\0" "NIST B-283\0" "sect131r1\0" "sect131r2\0"
+    "sect193r1\0" "sect193r2\0" "K-233\0" "NIST K-233\0" "nistk233\0" "B-233\0" "NIST B-233\0" "nistb233\0"
+    "secp128r1\0" "secp128r2\0" "secp160r2\0" "secp192k1\0" "secp224k1\0" "P-224\0" "NIST P-224\0" "P224\0" "nistp224\0"
+    "NIST224p\0" "P-384\0" "nistp384\0" "NIST P-384\0" "P384\0" "NIST384p\0", "P-521\0" "nistp521\0" "NIST P-521\0"
+    "P521\0" "NIST521p\0" "K-409\0" "NIST K-409\0" "nistk409\0" "B-409\0" "NIST B-409\0" "nistb409\0" "K-571\0"
+    "NIST K-571\0" "nistt571\0" "B-571\0" "NIST B-571\0" "ECDH-ES\0" "ECDH\0" "id_ecDH\0" "X500\0"
+    "directory services (X.500)\0" "selected-attribute-types\0" "Selected Attribute Types\0" "clearance\0" "X509\0"
+    "id_at\0" "aliasedEntryName\0" "id-at-commonName\0" "Common Name\0" "X520 Common Name\0" "common_name\0"
+    "id_at_commonName\0" "id-at-surname\0" "id_at_surname\0" "id-at-serialNumber\0" "Serial Number\0"
+    "X520 Serial Number\0" "serial_number\0" "id_at_serialNumber\0" "id-at-countryName\0" "X520 Country Name\0",
+    "country_name\0" "id_at_countryName\0" "id-at-localityName\0" "X520 Locality Name\0" "locality_name\0"
+    "id_at_localityName\0" "id-at-stateOrProvinceName\0" "S\0" "State / Province\0" "State/Province\0" "StateName\0"
+    "X520 State Or Province Name\0" "state_or_province_name\0" "id_at_stateOrProvinceName\0" "X520 Street Address\0"
+    "street_address\0" "id-at-organizationName\0" "OrgName\0" "X520 Organization Name\0" "organization_name\0"
+    "id_at_organizationName\0" "id-at-organizationalUnitName\0" "Organizational Unit\0" "OrgUnitName\0"
+    "X520 Organizational Unit Name\0" "organizational_unit_name\0", "id_at_organizationalUnitName\0" "id-at-title\0"
+    "T\0" "id_at_title\0" "Business Category\0" "business_category\0" "Postal Address\0" "Postal Code\0" "postal_code\0"
+    "POBox\0" "PO Box\0" "c-PhysicalDeliveryOfficeName\0" "Phone Number\0" "telephone_number\0" "fax\0" "Fax Number\0"
+    "See Also\0" "User Password\0" "id-at-userCertificate\0" "User Certificate\0" "id_at_userCertificate\0"
+    "CA Certificate\0" "Certificate Revocation List\0" "id-at-name\0" "id_at_name\0" "id-at-givenName\0" "G\0"
+    "Given Name\0" "X520 Given Name\0" "given_name\0" "id_at_givenName\0" "id-at-initials\0" "I\0" "id_at_initials\0"
+    "id-at-generationQualifier\0", "Generation Qualifier\0" "generation_qualifier\0" "id_at_generationQualifier\0"
+    "Unique Identifier\0" "unique_identifier\0" "id-at-dnQualifier\0" "DN Qualifier\0" "X520 DN Qualifier\0"
+    "dn_qualifier\0" "id_at_dnQualifier\0" "Distinguished Name\0" "House Identifier\0" "supported_algorithms\0"
+    "id-at-clearance\0" "id_at_clearance\0" "attributeCertificateAttribute\0" "attributeCertificateRevocationList\0"
+    "aACertificate\0" "attributeDescriptorCertificate\0" "attributeAuthorityRevocationList\0" "id-at-pseudonym\0"
+    "id_at_pseudonym\0" "id-at-pkiPath\0" "privPolicy\0" "role\0" "delegationPath\0" "protPrivPolicy\0",
+    "xmlPrivilegeInfo\0" "xmlPrivPolicy\0" "organizationIdentifier\0" "organization_identifier\0" "c3\0"
     "countryCode3c\0" "n3\0" "countryCode3n\0" "dnsName\0" "pmiUser\0" "pmiAA\0" "pmiSOA\0" "attCertCRLDistributionPt\0"
     "privilegePolicy\0" "pmiDelegationPath\0" "protectedPrivilegePolicy\0" "X500algorithms\0"
     "directory services - algorithms\0" "RSA\0" "rsa\0" "RSA-MDC2\0" "mdc2WithRSA\0" "MDC2\0" "mdc2\0"
     "octetStringSubstringsMatch\0" "attributeCertificateExactMatch\0" "attributeCertificateMatch\0" "hasSubordinates\0"
-    "szOID_AUTHORITY_KEY_IDENTIFIER\0" "szOID_KEY_ATTRIBUTES\0" "szOID_KEY_USAGE_RESTRICTION\0"
-    "szOID_SUBJECT_ALT_NAME\0", "szOID_ISSUER_ALT_NAME\0" "subjectDirectoryAttributes\0"
+    "id_ce\0" "szOID_AUTHORITY_KEY_IDENTIFIER\0" "szOID_KEY_ATTRIBUTES\0" "szOID_KEY_USAGE_RESTRICTION\0",
+    "szOID_SUBJECT_ALT_NAME\0" "szOID_ISSUER_ALT_NAME\0" "subjectDirectoryAttributes\0"
     "X509v3 Subject Directory Attributes\0" "szOID_SUBJECT_DIR_ATTRS\0" "Subject Directory Attributes\0"
-    "Certificate Subject Directory Attributes\0" "szOID_BASIC_CONSTRAINTS\0" "subjectKeyIdentifier\0"
-    "X509v3 Subject Key Identifier\0" "szOID_SUBJECT_KEY_IDENTIFIER\0" "Subject Key Identifier\0" "Subject Key ID\0"
-    "SubjectKeyID\0" "Certificate Subject Key ID\0" "keyUsage\0" "X509v3 Key Usage\0" "szOID_KEY_USAGE\0" "Key Usage\0"
-    "Key Usages\0" "Certificate Key Usage\0" "privateKeyUsagePeriod\0" "X509v3 Private Key Usage Period\0",
-    "szOID_PRIVATEKEY_USAGE_PERIOD\0" "Private Key Usage Period\0" "PrivateKeyUsage\0"
-    "Certificate Private Key Usage Period\0" "subjectAltName\0" "X509v3 Subject Alternative Name\0"
-    "szOID_SUBJECT_ALT_NAME2\0" "Subject Alternative Name\0" "Subject Alt Names\0" "Subject Alternative Names\0"
-    "SubjectAlternativeName\0" "Certificate Subject Alt Name\0" "issuerAltName\0" "X509v3 Issuer Alternative Name\0"
-    "szOID_ISSUER_ALT_NAME2\0" "Issuer Alternative Name\0" "IssuerAlternativeName\0" "Certificate Issuer Alt Name\0"
-    "basicConstraints\0" "X509v3 Basic Constraints\0" "szOID_BASIC_CONSTRAINTS2\0", "Basic Constraints\0"
-    "Certificate Basic Constraints\0" "crlNumber\0" "X509v3 CRL Number\0" "szOID_CRL_NUMBER\0" "CRL Number\0"
+    "Certificate Subject Directory Attributes\0" "subject_directory_attributes\0" "szOID_BASIC_CONSTRAINTS\0"
+    "subjectKeyIdentifier\0" "X509v3 Subject Key Identifier\0" "szOID_SUBJECT_KEY_IDENTIFIER\0"
+    "Subject Key Identifier\0" "Subject Key ID\0" "SubjectKeyID\0" "Certificate Subject Key ID\0" "key_identifier\0"
+    "id_ce_subjectKeyIdentifier\0" "keyUsage\0" "X509v3 Key Usage\0" "szOID_KEY_USAGE\0" "Key Usage\0", "Key Usages\0"
+    "Certificate Key Usage\0" "key_usage\0" "id_ce_keyUsage\0" "privateKeyUsagePeriod\0"
+    "X509v3 Private Key Usage Period\0" "szOID_PRIVATEKEY_USAGE_PERIOD\0" "Private Key Usage Period\0"
+    "PrivateKeyUsage\0" "Certificate Private Key Usage Period\0" "private_key_usage_period\0" "subjectAltName\0"
+    "X509v3 Subject Alternative Name\0" "szOID_SUBJECT_ALT_NAME2\0" "Subject Alternative Name\0" "Subject Alt Names\0"
+    "Subject Alternative Names\0" "SubjectAlternativeName\0" "Certificate Subject Alt Name\0" "subject_alt_name\0"
+    "id_ce_subjectAltName\0" "issuerAltName\0", "X509v3 Issuer Alternative Name\0" "szOID_ISSUER_ALT_NAME2\0"
+    "Issuer Alternative Name\0" "IssuerAlternativeName\0" "Certificate Issuer Alt Name\0" "issuer_alt_name\0"
+    "id_ce_issuerAltName\0" "basicConstraints\0" "X509v3 Basic Constraints\0" "szOID_BASIC_CONSTRAINTS2\0"
+    "Basic Constraints\0" "Certificate Basic Constraints\0" "basic_constraints\0" "id_ce_basicConstraints\0"
+    "crlNumber\0" "X509v3 CRL Number\0" "szOID_CRL_NUMBER\0" "CRL Number\0" "crl_number\0" "id_ce_cRLNumber\0"
     "CRLReason\0" "X509v3 CRL Reason Code\0" "szOID_CRL_REASON_CODE\0" "CRL Reason Code\0" "ReasonCode\0"
-    "holdInstructionCode\0" "Hold Instruction Code\0" "szOID_REASON_CODE_HOLD\0" "CRL Hold Instruction Code\0"
-    "invalidityDate\0" "Invalidity Date\0" "deltaCRL\0" "X509v3 Delta CRL Indicator\0" "szOID_DELTA_CRL_INDICATOR\0"
-    "Delta CRL Indicator\0" "deltaCRLIndicator\0" "issuingDistributionPoint\0" "X509v3 Issuing Distribution Point\0"
-    "szOID_ISSUING_DIST_POINT\0", "Issuing Distribution Point\0" "certificateIssuer\0" "X509v3 Certificate Issuer\0"
-    "Certificate Issuer\0" "Certificate Issuer Extension\0" "nameConstraints\0" "X509v3 Name Constraints\0"
-    "szOID_NAME_CONSTRAINTS\0" "Name Constraints\0" "Certificate Name Constraints\0" "crlDistributionPoints\0"
-    "X509v3 CRL Distribution Points\0" "szOID_CRL_DIST_POINTS\0" "CRL Distribution Points\0" "CRL Endpoints\0"
-    "Certificate Revocation List Endpoints\0" "certificatePolicies\0" "X509v3 Certificate Policies\0"
-    "szOID_CERT_POLICIES\0" "Certificate Policies\0" "X509v3 Any Policy\0" "szOID_ANY_CERT_POLICY\0", "Any Policy\0"
-    "All issuance policies\0" "Certificate Policies AnyPolicy\0" "policyMappings\0" "X509v3 Policy Mappings\0"
-    "szOID_POLICY_MAPPINGS\0" "Policy Mappings\0" "Certificate Policy Mappings\0" "authorityKeyIdentifier\0"
-    "X509v3 Authority Key Identifier\0" "szOID_AUTHORITY_KEY_IDENTIFIER2\0" "Authority Key Identifier\0"
-    "Authority Key ID\0" "AuthorityKeyID\0" "Certificate Authority Key Identifier\0" "policyConstraints\0"
-    "X509v3 Policy Constraints\0" "szOID_POLICY_CONSTRAINTS\0" "Policy Constraints\0" "Certificate Policy Constraints\0"
-    "extendedKeyUsage\0", "X509v3 Extended Key Usage\0" "szOID_ENHANCED_KEY_USAGE\0" "Extended Key Usage\0"
-    "Enhanced Key Usage\0" "Extended Key Usages\0" "Key Purpose\0" "Any Extended Key Usage\0"
-    "szOID_ANY_ENHANCED_KEY_USAGE\0" "Any Purpose\0" "authorityAttributeIdentifier\0"
-    "X509v3 Authority Attribute Identifier\0" "Authority Attribute Identifier\0" "roleSpecCertIdentifier\0"
-    "X509v3 Role Specification Certificate Identifier\0" "Role Specification Certificate Identifier\0"
-    "basicAttConstraints\0" "X509v3 Basic Attribute Certificate Constraints\0"
-    "Basic Attribute Certificate Constraints\0", "delegatedNameConstraints\0" "X509v3 Delegated Name Constraints\0"
-    "Delegated Name Constraints\0" "timeSpecification\0" "X509v3 Time Specification\0" "Time Specification\0"
-    "freshestCRL\0" "X509v3 Freshest CRL\0" "szOID_FRESHEST_CRL\0" "Freshest CRL\0" "attributeDescriptor\0"
+    "crl_reason\0", "id_ce_cRLReasons\0" "holdInstructionCode\0" "Hold Instruction Code\0" "szOID_REASON_CODE_HOLD\0"
+    "CRL Hold Instruction Code\0" "hold_instruction_code\0" "invalidityDate\0" "Invalidity Date\0" "invalidity_date\0"
+    "id_ce_invalidityDate\0" "deltaCRL\0" "X509v3 Delta CRL Indicator\0" "szOID_DELTA_CRL_INDICATOR\0"
+    "Delta CRL Indicator\0" "deltaCRLIndicator\0" "delta_crl_indicator\0" "id_ce_deltaCRLIndicator\0"
+    "issuingDistributionPoint\0" "X509v3 Issuing Distribution Point\0" "szOID_ISSUING_DIST_POINT\0"
+    "Issuing Distribution Point\0" "issuing_distribution_point\0", "id_ce_issuingDistributionPoint\0"
+    "certificateIssuer\0" "X509v3 Certificate Issuer\0" "Certificate Issuer\0" "Certificate Issuer Extension\0"
+    "certificate_issuer\0" "id_ce_certificateIssuer\0" "nameConstraints\0" "X509v3 Name Constraints\0"
+    "szOID_NAME_CONSTRAINTS\0" "Name Constraints\0" "Certificate Name Constraints\0" "name_constraints\0"
+    "id_ce_nameConstraints\0" "crlDistributionPoints\0" "X509v3 CRL Distribution Points\0" "szOID_CRL_DIST_POINTS\0"
+    "CRL Distribution Points\0" "CRL Endpoints\0" "Certificate Revocation List Endpoints\0" "crl_distribution_points\0",
+    "id_ce_cRLDistributionPoints\0" "certificatePolicies\0" "X509v3 Certificate Policies\0" "szOID_CERT_POLICIES\0"
+    "Certificate Policies\0" "certificate_policies\0" "id_ce_certificatePolicies\0" "X509v3 Any Policy\0"
+    "szOID_ANY_CERT_POLICY\0" "Any Policy\0" "All issuance policies\0" "Certificate Policies AnyPolicy\0" "any_policy\0"
+    "policyMappings\0" "X509v3 Policy Mappings\0" "szOID_POLICY_MAPPINGS\0" "Policy Mappings\0"
+    "Certificate Policy Mappings\0" "policy_mappings\0" "id_ce_policyMappings\0" "authorityKeyIdentifier\0"
+    "X509v3 Authority Key Identifier\0" "szOID_AUTHORITY_KEY_IDENTIFIER2\0", "Authority Key Identifier\0"
+    "Authority Key ID\0" "AuthorityKeyID\0" "Certificate Authority Key Identifier\0" "authority_key_identifier\0"
+    "id_ce_authorityKeyIdentifier\0" "policyConstraints\0" "X509v3 Policy Constraints\0" "szOID_POLICY_CONSTRAINTS\0"
+    "Policy Constraints\0" "Certificate Policy Constraints\0" "policy_constraints\0" "id_ce_policyConstraints\0"
+    "extendedKeyUsage\0" "X509v3 Extended Key Usage\0" "szOID_ENHANCED_KEY_USAGE\0" "Extended Key Usage\0"
+    "Enhanced Key Usage\0" "Extended Key Usages\0" "Key Purpose\0" "extended_key_usage\0" "id_ce_extKeyUsage\0"
+    "Any Extended Key Usage\0", "szOID_ANY_ENHANCED_KEY_USAGE\0" "Any Purpose\0" "ExtKeyUsageAny\0"
+    "any_extended_key_usage\0" "authorityAttributeIdentifier\0" "X509v3 Authority Attribute Identifier\0"
+    "Authority Attribute Identifier\0" "roleSpecCertIdentifier\0" "X509v3 Role Specification Certificate Identifier\0"
+    "Role Specification Certificate Identifier\0" "basicAttConstraints\0"
+    "X509v3 Basic Attribute Certificate Constraints\0" "Basic Attribute Certificate Constraints\0"
+    "delegatedNameConstraints\0" "X509v3 Delegated Name Constraints\0" "Delegated Name Constraints\0"
+    "timeSpecification\0", "X509v3 Time Specification\0" "Time Specification\0" "freshestCRL\0" "X509v3 Freshest CRL\0"
+    "szOID_FRESHEST_CRL\0" "Freshest CRL\0" "freshest_crl\0" "id_ce_freshestCRL\0" "attributeDescriptor\0"
     "X509v3 Attribute Descriptor\0" "Attribute Descriptor\0" "userNotice\0" "X509v3 User Notice\0" "sOAIdentifier\0"
     "X509v3 Source of Authority Identifier\0" "Source of Authority Identifier\0" "acceptableCertPolicies\0"
-    "X509v3 Acceptable Certification Policies\0" "Acceptable Certification Policies\0", "inhibitAnyPolicy\0"
-    "X509v3 Inhibit Any Policy\0" "szOID_INHIBIT_ANY_POLICY\0" "Inhibit Any Policy\0" "targetInformation\0"
-    "X509v3 AC Targeting\0" "AC Targeting\0" "noRevAvail\0" "X509v3 No Revocation Available\0"
-    "No Revocation Available\0" "acceptablePrivPolicies\0" "X509v3 Acceptable Privilege Policies\0"
-    "Acceptable Privilege Policies\0" "indirectIssuer\0" "X509v3 Indirect Issuer\0" "Indirect Issuer\0" "noAssertion\0"
-    "X509v3 No Assertion\0" "No Assertion\0" "aAissuingDistributionPoint\0"
-    "X509v3 Attribute Authority Issuing Distribution Point\0", "Attribute Authority Issuing Distribution Point\0"
-    "issuedOnBehalfOf\0" "X509v3 Issued On Behalf Of\0" "Issued On Behalf Of\0" "singleUse\0" "X509v3 Single Use\0"
-    "Single Use\0" "groupAC\0" "X509v3 Group Attribute Certificate\0" "Group Attribute Certificate\0"
-    "allowedAttributeAssignments\0" "X509v3 Allowed Attribute Assignments\0" "Allowed Attribute Assignments\0"
-    "attributeMappings\0" "X509v3 Attribute Mappings\0" "Attribute Mappings\0" "holderNameConstraints\0"
-    "X509v3 Holder Name Constraints\0" "Holder Name Constraints\0" "authorizationValidation\0",
-    "X509v3 Authorization Validation\0" "Authorization Validation\0" "protRestrict\0" "X509v3 Protocol Restriction\0"
-    "Protocol Restriction\0" "subjectAltPublicKeyInfo\0" "X509v3 Subject Alternative Public Key Info\0"
-    "Subject Alternative Public Key Info\0" "altSignatureAlgorithm\0" "X509v3 Alternative Signature Algorithm\0"
-    "Alternative Signature Algorithm\0" "altSignatureValue\0" "X509v3 Alternative Signature Value\0"
-    "Alternative Signature Value\0" "associatedInformation\0" "X509v3 Associated Information\0"
-    "Associated Information\0" "AES-128-ECB\0" "aes-128-ecb\0", "AES_128/ECB/NoPadding\0" "AES-128-CBC\0"
-    "aes-128-cbc\0" "AES128\0" "aes128-CBC-PAD\0" "AES_128/CBC/NoPadding\0" "AES-128\0" "AES-128-OFB\0" "aes-128-ofb\0"
-    "AES_128/OFB/NoPadding\0" "AES-128-CFB\0" "aes-128-cfb\0" "AES_128/CFB/NoPadding\0" "AES-128-WRAP\0" "AES128-WRAP\0"
-    "A128KW\0" "AES_128/KW/NoPadding\0" "AESWrap_128\0" "AES-128 Key Wrap\0" "aes-128-gcm\0" "A128GCM\0"
-    "AES_128/GCM/NoPadding\0" "aes-128-ccm\0" "id-aes128-wrap-pad\0" "AES-128-WRAP-PAD\0" "AES128-WRAP-PAD\0"
-    "AES_128/KWP/NoPadding\0" "AESWrapPad_128\0" "AES-192-ECB\0" "aes-192-ecb\0" "AES_192/ECB/NoPadding\0"
-    "AES-192-CBC\0" "aes-192-cbc\0" "AES192\0" "aes192-CBC-PAD\0", "AES_192/CBC/NoPadding\0" "AES-192\0" "AES-192-OFB\0"
-    "aes-192-ofb\0" "AES_192/OFB/NoPadding\0" "AES-192-CFB\0" "aes-192-cfb\0" "AES_192/CFB/NoPadding\0" "AES-192-WRAP\0"
-    "AES192-WRAP\0" "A192KW\0" "AES_192/KW/NoPadding\0" "AESWrap_192\0" "AES-192 Key Wrap\0" "aes-192-gcm\0" "A192GCM\0"
-    "AES_192/GCM/NoPadding\0" "aes-192-ccm\0" "id-aes192-wrap-pad\0" "AES-192-WRAP-PAD\0" "AES192-WRAP-PAD\0"
-    "AES_192/KWP/NoPadding\0" "AESWrapPad_192\0" "AES-256-ECB\0" "aes-256-ecb\0" "AES_256/ECB/NoPadding\0"
-    "AES-256-CBC\0" "aes-256-cbc\0" "AES256\0" "aes256-CBC-PAD\0" "AES_256/CBC/NoPadding\0" "AES-256\0" "AES-256-OFB\0"
-    "aes-256-ofb\0", "AES_256/OFB/NoPadding\0" "AES-256-CFB\0" "aes-256-cfb\0" "AES_256/CFB/NoPadding\0"
-    "AES-256-WRAP\0" "AES256-WRAP\0" "A256KW\0" "AES_256/KW/NoPadding\0" "AESWrap_256\0" "AES-256 Key Wrap\0"
-    "aes-256-gcm\0" "A256GCM\0" "AES_256/GCM/NoPadding\0" "aes-256-ccm\0" "id-aes256-wrap-pad\0" "AES-256-WRAP-PAD\0"
-    "AES256-WRAP-PAD\0" "AES_256/KWP/NoPadding\0" "AESWrapPad_256\0" "SHA-256\0" "SHA256\0" "sha256\0" "SHA2-256\0"
-    "sha_256\0" "SHA-384\0" "SHA384\0" "sha384\0" "SHA2-384\0" "sha_384\0" "SHA-512\0" "SHA512\0" "sha512\0"
-    "SHA2-512\0" "sha_512\0" "SHA-224\0" "SHA224\0" "sha224\0" "SHA2-224\0" "sha_224\0" "SHA-512/224\0" "SHA512-224\0"
-    "sha512-224\0" "SHA2-512/224\0", "id-sha512-224\0" "SHA512/224\0" "SHA-512/256\0" "SHA512-256\0" "sha512-256\0"
-    "SHA2-512/256\0" "id-sha512-256\0" "SHA512/256\0" "SHA3-224\0" "sha3-224\0" "sha3_224\0" "SHA3-256\0" "sha3-256\0"
-    "sha3_256\0" "SHA3-384\0" "sha3-384\0" "sha3_384\0" "SHA3-512\0" "sha3-512\0" "sha3_512\0" "SHAKE128\0" "shake128\0"
-    "SHAKE-128\0" "SHAKE128-256\0" "shake_128\0" "SHAKE256\0" "shake256\0" "SHAKE-256\0" "SHAKE256-512\0" "shake_256\0"
-    "hmac-sha3-224\0" "HmacSHA3-224\0" "hmac-sha3-256\0" "HmacSHA3-256\0" "hmac-sha3-384\0" "HmacSHA3-384\0"
-    "hmac-sha3-512\0" "HmacSHA3-512\0" "SHAKE128-LEN\0" "id-shake256-len\0" "SHAKE256-LEN\0" "KMAC128\0" "kmac128\0"
-    "KMAC-128\0" "KMAC256\0" "kmac256\0" "KMAC-256\0", "dsa_with_SHA224\0" "DSA-SHA2-224\0" "DSA-SHA224\0"
-    "id-dsa-with-sha224\0" "SHA224withDSA\0" "DSA with SHA-224 Signature\0" "dsa_with_SHA256\0" "DSA-SHA2-256\0"
-    "DSA-SHA256\0" "id-dsa-with-sha256\0" "DSA with SHA-256\0" "SHA256withDSA\0" "DSA with SHA-256 Signature\0"
-    "id-dsa-with-sha384\0" "dsa_with_SHA384\0" "DSA-SHA2-384\0" "DSA-SHA384\0" "SHA384withDSA\0" "id-dsa-with-sha512\0"
-    "dsa_with_SHA512\0" "DSA-SHA2-512\0" "DSA-SHA512\0" "SHA512withDSA\0" "id-dsa-with-sha3-224\0" "dsa_with_SHA3-224\0"
-    "DSA-SHA3-224\0" "SHA3-224withDSA\0" "id-dsa-with-sha3-256\0" "dsa_with_SHA3-256\0" "DSA-SHA3-256\0"
-    "SHA3-256withDSA\0", "id-dsa-with-sha3-384\0" "dsa_with_SHA3-384\0" "DSA-SHA3-384\0" "SHA3-384withDSA\0"
-    "id-dsa-with-sha3-512\0" "dsa_with_SHA3-512\0" "DSA-SHA3-512\0" "SHA3-512withDSA\0" "ecdsa_with_SHA3-224\0"
-    "ECDSA-SHA3-224\0" "SHA3-224withECDSA\0" "ecdsa_with_SHA3-256\0" "ECDSA-SHA3-256\0" "SHA3-256withECDSA\0"
-    "ecdsa_with_SHA3-384\0" "ECDSA-SHA3-384\0" "SHA3-384withECDSA\0" "ecdsa_with_SHA3-512\0" "ECDSA-SHA3-512\0"
-    "SHA3-512withECDSA\0" "id-rsassa-pkcs1-v1_5-with-sha3-224\0" "RSA-SHA3-224\0" "SHA3-224withRSA\0"
-    "id-rsassa-pkcs1-v1_5-with-sha3-256\0" "RSA-SHA3-256\0" "SHA3-256withRSA\0", "id-rsassa-pkcs1-v1_5-with-sha3-384\0"
-    "RSA-SHA3-384\0" "SHA3-384withRSA\0" "id-rsassa-pkcs1-v1_5-with-sha3-512\0" "RSA-SHA3-512\0" "SHA3-512withRSA\0"
-    "ML-DSA-44\0" "MLDSA44\0" "ML-DSA-65\0" "MLDSA65\0" "ML-DSA-87\0" "MLDSA87\0" "SLH-DSA-SHA2-128s\0"
-    "SLH-DSA-SHA2-128f\0" "SLH-DSA-SHA2-192s\0" "SLH-DSA-SHA2-192f\0" "SLH-DSA-SHA2-256s\0" "SLH-DSA-SHA2-256f\0"
-    "SLH-DSA-SHAKE-128s\0" "SLH-DSA-SHAKE-128f\0" "SLH-DSA-SHAKE-192s\0" "SLH-DSA-SHAKE-192f\0" "SLH-DSA-SHAKE-256s\0"
-    "SLH-DSA-SHAKE-256f\0" "HASH-ML-DSA-44-WITH-SHA512\0" "HASH-ML-DSA-65-WITH-SHA512\0" "HASH-ML-DSA-87-WITH-SHA512\0",
+    "X509v3 Acceptable Certification Policies\0" "Acceptable Certification Policies\0" "inhibitAnyPolicy\0"
+    "X509v3 Inhibit Any Policy\0" "szOID_INHIBIT_ANY_POLICY\0" "Inhibit Any Policy\0", "inhibit_any_policy\0"
+    "id_ce_inhibitAnyPolicy\0" "targetInformation\0" "X509v3 AC Targeting\0" "AC Targeting\0" "noRevAvail\0"
+    "X509v3 No Revocation Available\0" "No Revocation Available\0" "acceptablePrivPolicies\0"
+    "X509v3 Acceptable Privilege Policies\0" "Acceptable Privilege Policies\0" "indirectIssuer\0"
+    "X509v3 Indirect Issuer\0" "Indirect Issuer\0" "noAssertion\0" "X509v3 No Assertion\0" "No Assertion\0"
+    "aAissuingDistributionPoint\0" "X509v3 Attribute Authority Issuing Distribution Point\0"
+    "Attribute Authority Issuing Distribution Point\0" "issuedOnBehalfOf\0", "X509v3 Issued On Behalf Of\0"
+    "Issued On Behalf Of\0" "singleUse\0" "X509v3 Single Use\0" "Single Use\0" "groupAC\0"
+    "X509v3 Group Attribute Certificate\0" "Group Attribute Certificate\0" "allowedAttributeAssignments\0"
+    "X509v3 Allowed Attribute Assignments\0" "Allowed Attribute Assignments\0" "attributeMappings\0"
+    "X509v3 Attribute Mappings\0" "Attribute Mappings\0" "holderNameConstraints\0" "X509v3 Holder Name Constraints\0"
+    "Holder Name Constraints\0" "authorizationValidation\0" "X509v3 Authorization Validation\0"
+    "Authorization Validation\0" "protRestrict\0", "X509v3 Protocol Restriction\0" "Protocol Restriction\0"
+    "subjectAltPublicKeyInfo\0" "X509v3 Subject Alternative Public Key Info\0" "Subject Alternative Public Key Info\0"
+    "altSignatureAlgorithm\0" "X509v3 Alternative Signature Algorithm\0" "Alternative Signature Algorithm\0"
+    "altSignatureValue\0" "X509v3 Alternative Signature Value\0" "Alternative Signature Value\0"
+    "associatedInformation\0" "X509v3 Associated Information\0" "Associated Information\0" "id-tamp\0"
+    "id-clearanceSponsor\0" "id-deviceOwner\0" "nistAlgorithm\0" "AES-128-ECB\0" "aes-128-ecb\0"
+    "AES_128/ECB/NoPadding\0", "aes128_ecb\0" "AES-128-CBC\0" "aes-128-cbc\0" "AES128\0" "aes128-CBC-PAD\0"
+    "AES_128/CBC/NoPadding\0" "AES-128\0" "aes128_cbc\0" "id_aes128_CBC\0" "AES-128-OFB\0" "aes-128-ofb\0"
+    "AES_128/OFB/NoPadding\0" "aes128_ofb\0" "AES-128-CFB\0" "aes-128-cfb\0" "AES_128/CFB/NoPadding\0" "aes128_cfb\0"
+    "AES-128-WRAP\0" "AES128-WRAP\0" "A128KW\0" "AES_128/KW/NoPadding\0" "AESWrap_128\0" "AES-128 Key Wrap\0"
+    "aes128_wrap\0" "id_aes128_wrap\0" "aes-128-gcm\0" "A128GCM\0" "AES_128/GCM/NoPadding\0" "aes128_gcm\0"
+    "id_aes128_GCM\0" "aes-128-ccm\0" "aes128_ccm\0" "id-aes128-wrap-pad\0" "AES-128-WRAP-PAD\0" "AES128-WRAP-PAD\0"
+    "AES_128/KWP/NoPadding\0", "AESWrapPad_128\0" "aes128_wrap_pad\0" "id_aes128_wrap_pad\0" "AES-192-ECB\0"
+    "aes-192-ecb\0" "AES_192/ECB/NoPadding\0" "aes192_ecb\0" "AES-192-CBC\0" "aes-192-cbc\0" "AES192\0"
+    "aes192-CBC-PAD\0" "AES_192/CBC/NoPadding\0" "AES-192\0" "aes192_cbc\0" "id_aes192_CBC\0" "AES-192-OFB\0"
+    "aes-192-ofb\0" "AES_192/OFB/NoPadding\0" "aes192_ofb\0" "AES-192-CFB\0" "aes-192-cfb\0" "AES_192/CFB/NoPadding\0"
+    "aes192_cfb\0" "AES-192-WRAP\0" "AES192-WRAP\0" "A192KW\0" "AES_192/KW/NoPadding\0" "AESWrap_192\0"
+    "AES-192 Key Wrap\0" "aes192_wrap\0" "id_aes192_wrap\0" "aes-192-gcm\0" "A192GCM\0" "AES_192/GCM/NoPadding\0"
+    "aes192_gcm\0" "id_aes192_GCM\0", "aes-192-ccm\0" "aes192_ccm\0" "id-aes192-wrap-pad\0" "AES-192-WRAP-PAD\0"
+    "AES192-WRAP-PAD\0" "AES_192/KWP/NoPadding\0" "AESWrapPad_192\0" "aes192_wrap_pad\0" "id_aes192_wrap_pad\0"
+    "AES-256-ECB\0" "aes-256-ecb\0" "AES_256/ECB/NoPadding\0" "aes256_ecb\0" "AES-256-CBC\0" "aes-256-cbc\0" "AES256\0"
+    "aes256-CBC-PAD\0" "AES_256/CBC/NoPadding\0" "AES-256\0" "aes256_cbc\0" "id_aes256_CBC\0" "AES-256-OFB\0"
+    "aes-256-ofb\0" "AES_256/OFB/NoPadding\0" "aes256_ofb\0" "AES-256-CFB\0" "aes-256-cfb\0" "AES_256/CFB/NoPadding\0"
+    "aes256_cfb\0" "AES-256-WRAP\0" "AES256-WRAP\0" "A256KW\0" "AES_256/KW/NoPadding\0" "AESWrap_256\0"
+    "AES-256 Key Wrap\0", "aes256_wrap\0" "id_aes256_wrap\0" "aes-256-gcm\0" "A256GCM\0" "AES_256/GCM/NoPadding\0"
+    "aes256_gcm\0" "id_aes256_GCM\0" "aes-256-ccm\0" "aes256_ccm\0" "id-aes256-wrap-pad\0" "AES-256-WRAP-PAD\0"
+    "AES256-WRAP-PAD\0" "AES_256/KWP/NoPadding\0" "AESWrapPad_256\0" "aes256_wrap_pad\0" "id_aes256_wrap_pad\0"
+    "SHA-256\0" "SHA256\0" "sha256\0" "SHA2-256\0" "sha_256\0" "id_sha256\0" "SHA-384\0" "SHA384\0" "sha384\0"
+    "SHA2-384\0" "sha_384\0" "id_sha384\0" "SHA-512\0" "SHA512\0" "sha512\0" "SHA2-512\0" "sha_512\0" "id_sha512\0"
+    "SHA-224\0" "SHA224\0" "sha224\0" "SHA2-224\0" "sha_224\0" "id_sha224\0" "SHA-512/224\0" "SHA512-224\0"
+    "sha512-224\0" "SHA2-512/224\0" "id-sha512-224\0" "SHA512/224\0", "sha512_224\0" "id_sha512_224\0" "SHA-512/256\0"
+    "SHA512-256\0" "sha512-256\0" "SHA2-512/256\0" "id-sha512-256\0" "SHA512/256\0" "sha512_256\0" "id_sha512_256\0"
+    "SHA3-224\0" "sha3-224\0" "sha3_224\0" "SHA3-256\0" "sha3-256\0" "sha3_256\0" "SHA3-384\0" "sha3-384\0" "sha3_384\0"
+    "SHA3-512\0" "sha3-512\0" "sha3_512\0" "SHAKE128\0" "shake128\0" "SHAKE-128\0" "SHAKE128-256\0" "shake_128\0"
+    "SHAKE256\0" "shake256\0" "SHAKE-256\0" "SHAKE256-512\0" "shake_256\0" "hmac-sha3-224\0" "HmacSHA3-224\0"
+    "hmac-sha3-256\0" "HmacSHA3-256\0" "hmac-sha3-384\0" "HmacSHA3-384\0" "hmac-sha3-512\0" "HmacSHA3-512\0"
+    "SHAKE128-LEN\0" "shake128_len\0" "id-shake256-len\0" "SHAKE256-LEN\0" "shake256_len\0", "KMAC128\0" "kmac128\0"
+    "KMAC-128\0" "KMAC256\0" "kmac256\0" "KMAC-256\0" "dsa_with_SHA224\0" "DSA-SHA2-224\0" "DSA-SHA224\0"
+    "id-dsa-with-sha224\0" "SHA224withDSA\0" "DSA with SHA-224 Signature\0" "sha224_dsa\0" "id_dsa_with_sha224\0"
+    "dsa_with_SHA256\0" "DSA-SHA2-256\0" "DSA-SHA256\0" "id-dsa-with-sha256\0" "DSA with SHA-256\0" "SHA256withDSA\0"
+    "DSA with SHA-256 Signature\0" "DSAWithSHA256\0" "sha256_dsa\0" "id_dsa_with_sha256\0" "id-dsa-with-sha384\0"
+    "dsa_with_SHA384\0" "DSA-SHA2-384\0" "DSA-SHA384\0" "SHA384withDSA\0" "id-dsa-with-sha512\0" "dsa_with_SHA512\0"
+    "DSA-SHA2-512\0" "DSA-SHA512\0" "SHA512withDSA\0" "id-dsa-with-sha3-224\0", "dsa_with_SHA3-224\0" "DSA-SHA3-224\0"
+    "SHA3-224withDSA\0" "id-dsa-with-sha3-256\0" "dsa_with_SHA3-256\0" "DSA-SHA3-256\0" "SHA3-256withDSA\0"
+    "id-dsa-with-sha3-384\0" "dsa_with_SHA3-384\0" "DSA-SHA3-384\0" "SHA3-384withDSA\0" "id-dsa-with-sha3-512\0"
+    "dsa_with_SHA3-512\0" "DSA-SHA3-512\0" "SHA3-512withDSA\0" "ecdsa_with_SHA3-224\0" "ECDSA-SHA3-224\0"
+    "SHA3-224withECDSA\0" "sha3_224_ecdsa\0" "ecdsa_with_SHA3-256\0" "ECDSA-SHA3-256\0" "SHA3-256withECDSA\0"
+    "sha3_256_ecdsa\0" "ecdsa_with_SHA3-384\0" "ECDSA-SHA3-384\0" "SHA3-384withECDSA\0" "sha3_384_ecdsa\0"
+    "ecdsa_with_SHA3-512\0" "ECDSA-SHA3-512\0" "SHA3-512withECDSA\0", "sha3_512_ecdsa\0"
+    "id-rsassa-pkcs1-v1_5-with-sha3-224\0" "RSA-SHA3-224\0" "SHA3-224withRSA\0" "id-rsassa-pkcs1-v1_5-with-sha3-256\0"
+    "RSA-SHA3-256\0" "SHA3-256withRSA\0" "id-rsassa-pkcs1-v1_5-with-sha3-384\0" "RSA-SHA3-384\0" "SHA3-384withRSA\0"
+    "id-rsassa-pkcs1-v1_5-with-sha3-512\0" "RSA-SHA3-512\0" "SHA3-512withRSA\0" "ML-DSA-44\0" "MLDSA44\0" "ML-DSA-65\0"
+    "MLDSA65\0" "ML-DSA-87\0" "MLDSA87\0" "SLH-DSA-SHA2-128s\0" "SLH-DSA-SHA2-128f\0" "SLH-DSA-SHA2-192s\0"
+    "SLH-DSA-SHA2-192f\0" "SLH-DSA-SHA2-256s\0" "SLH-DSA-SHA2-256f\0" "SLH-DSA-SHAKE-128s\0" "SLH-DSA-SHAKE-128f\0"
+    "SLH-DSA-SHAKE-192s\0" "SLH-DSA-SHAKE-192f\0", "SLH-DSA-SHAKE-256s\0" "SLH-DSA-SHAKE-256f\0"
+    "HASH-ML-DSA-44-WITH-SHA512\0" "HASH-ML-DSA-65-WITH-SHA512\0" "HASH-ML-DSA-87-WITH-SHA512\0"
     "SLH-DSA-SHA2-128s-WITH-SHA256\0" "SLH-DSA-SHA2-128f-WITH-SHA256\0" "SLH-DSA-SHA2-192s-WITH-SHA512\0"
     "SLH-DSA-SHA2-192f-WITH-SHA512\0" "SLH-DSA-SHA2-256s-WITH-SHA512\0" "SLH-DSA-SHA2-256f-WITH-SHA512\0"
     "SLH-DSA-SHAKE-128s-WITH-SHAKE128\0" "SLH-DSA-SHAKE-128f-WITH-SHAKE128\0" "SLH-DSA-SHAKE-192s-WITH-SHAKE256\0"
     "SLH-DSA-SHAKE-192f-WITH-SHAKE256\0" "SLH-DSA-SHAKE-256s-WITH-SHAKE256\0" "SLH-DSA-SHAKE-256f-WITH-SHAKE256\0"
-    "ML-KEM-512\0" "MLKEM512\0" "ML-KEM-768\0" "MLKEM768\0" "ML-KEM-1024\0" "MLKEM1024\0" "Netscape\0"
-    "Netscape Communications Corp.\0" "nsCertExt\0", "Netscape Certificate Extension\0" "nsCertType\0"
-    "Netscape Cert Type\0" "nsBaseUrl\0" "Netscape Base Url\0" "nsRevocationUrl\0" "Netscape Revocation Url\0"
-    "nsCaRevocationUrl\0" "Netscape CA Revocation Url\0" "nsRenewalUrl\0" "Netscape Renewal Url\0" "nsCaPolicyUrl\0"
+    "ML-KEM-512\0", "MLKEM512\0" "ML-KEM-768\0" "MLKEM768\0" "ML-KEM-1024\0" "MLKEM1024\0" "piv_content_signing\0"
+    "piv_card_authentication\0" "fpki_pivi_content_signing\0" "krbPrincipalName\0" "krbPrincipalType\0" "krbUPEnabled\0"
+    "krbPrincipalExpiration\0" "krbTicketFlags\0" "krbMaxTicketLife\0" "krbMaxRenewableAge\0" "krbRealmReferences\0"
+    "krbLdapServers\0" "krbKdcServers\0" "krbPwdServers\0" "krbHostServer\0" "krbSearchScope\0"
+    "krbPrincipalReferences\0" "krbPrincNamingAttr\0" "krbAdmServers\0" "krbMaxPwdLife\0" "krbMinPwdLife\0"
+    "krbPwdMinDiffChars\0" "krbPwdMinLength\0" "krbPwdHistoryLength\0" "krbPwdPolicyReference\0",
+    "krbPasswordExpiration\0" "krbPrincipalKey\0" "krbTicketPolicyReference\0" "krbSubTrees\0"
+    "krbDefaultEncSaltTypes\0" "krbSupportedEncSaltTypes\0" "krbPwdHistory\0" "krbLastPwdChange\0" "krbMKey\0"
+    "krbPrincipalAliases\0" "krbLastSuccessfulAuth\0" "krbLastFailedAuth\0" "krbLoginFailedCount\0" "krbExtraData\0"
+    "krbObjectReferences\0" "krbPrincContainerRef\0" "krbContainer\0" "krbRealmContainer\0" "krbService\0"
+    "krbKdcService\0" "krbPwdService\0" "krbPrincipalAux\0" "krbPrincipal\0" "krbPrincRefAux\0" "krbAdmService\0"
+    "krbPwdPolicy\0" "krbTicketPolicyAux\0" "krbTicketPolicy\0" "Netscape\0", "Netscape Communications Corp.\0"
+    "nsCertExt\0" "Netscape Certificate Extension\0" "nsCertType\0" "Netscape Cert Type\0" "netscape_certificate_type\0"
+    "nsBaseUrl\0" "Netscape Base Url\0" "nsRevocationUrl\0" "Netscape Revocation Url\0" "nsCaRevocationUrl\0"
+    "Netscape CA Revocation Url\0" "nsRenewalUrl\0" "Netscape Renewal Url\0" "nsCaPolicyUrl\0"
     "Netscape CA Policy Url\0" "nsSslServerName\0" "Netscape SSL Server Name\0" "nsComment\0" "Netscape Comment\0"
     "nsDataType\0" "Netscape Data Type\0" "nsCertSequence\0" "Netscape Certificate Sequence\0" "changeNumber\0"
-    "targetDn\0" "changeType\0" "changes\0" "newRdn\0" "deleteOldRdn\0" "newSuperior\0" "mailLocalAddress\0"
-    "mailHost\0" "middleName\0", "thumbnailPhoto\0" "mailRoutingAddress\0" "changeTime\0" "memberURL\0" "nsUniqueId\0"
+    "targetDn\0" "changeType\0" "changes\0" "newRdn\0", "deleteOldRdn\0" "newSuperior\0" "mailLocalAddress\0"
+    "mailHost\0" "middleName\0" "thumbnailPhoto\0" "mailRoutingAddress\0" "changeTime\0" "memberURL\0" "nsUniqueId\0"
     "changeLogEntry\0" "groupOfURLs\0" "inetLocalMailRecipient\0" "LDAP_CONTROL_MANAGEDSAIT\0"
     "LDAP_CONTROL_PERSIST_REQUEST\0" "LDAP_CONTROL_X_PASSWORD_EXPIRED\0" "LDAP_CONTROL_X_PASSWORD_EXPIRING\0"
     "LDAP_CONTROL_PERSIST_ENTRY_CHANGE_NOTICE\0" "LDAP_CONTROL_VLVREQUEST\0" "LDAP_CONTROL_VLVRESPONSE\0"
-    "LDAP_CONTROL_AUTHZID_RESPONSE\0" "LDAP_CONTROL_AUTHZID_REQUEST\0" "LDAP_CONTROL_PROXY_AUTHZ\0" "nsSGC\0"
-    "Netscape Server Gated Crypto\0" "oracle-organization\0" "Oracle organization\0", "oracle-jdk-trustedkeyusage\0"
-    "Trusted key usage (Oracle)\0" "international-organizations\0" "International Organizations\0" "id-set\0"
-    "Secure Electronic Transactions\0" "set-ctype\0" "content types\0" "setct-PANData\0" "setct-PANToken\0"
-    "setct-PANOnly\0" "setct-OIData\0" "setct-PI\0" "setct-PIData\0" "setct-PIDataUnsigned\0" "setct-HODInput\0"
-    "setct-AuthResBaggage\0" "setct-AuthRevReqBaggage\0" "setct-AuthRevResBaggage\0" "setct-CapTokenSeq\0"
-    "setct-PInitResData\0" "setct-PI-TBS\0" "setct-PResData\0" "setct-AuthReqTBS\0" "setct-AuthResTBS\0"
-    "setct-AuthResTBSX\0" "setct-AuthTokenTBS\0", "setct-CapTokenData\0" "setct-CapTokenTBS\0" "setct-AcqCardCodeMsg\0"
-    "setct-AuthRevReqTBS\0" "setct-AuthRevResData\0" "setct-AuthRevResTBS\0" "setct-CapReqTBS\0" "setct-CapReqTBSX\0"
-    "setct-CapResData\0" "setct-CapRevReqTBS\0" "setct-CapRevReqTBSX\0" "setct-CapRevResData\0" "setct-CredReqTBS\0"
-    "setct-CredReqTBSX\0" "setct-CredResData\0" "setct-CredRevReqTBS\0" "setct-CredRevReqTBSX\0"
-    "setct-CredRevResData\0" "setct-PCertReqData\0" "setct-PCertResTBS\0" "setct-BatchAdminReqData\0"
-    "setct-BatchAdminResData\0" "setct-CardCInitResTBS\0" "setct-MeAqCInitResTBS\0" "setct-RegFormResTBS\0",
-    "setct-CertReqData\0" "setct-CertReqTBS\0" "setct-CertResData\0" "setct-CertInqReqTBS\0" "setct-ErrorTBS\0"
-    "setct-PIDualSignedTBE\0" "setct-PIUnsignedTBE\0" "setct-AuthReqTBE\0" "setct-AuthResTBE\0" "setct-AuthResTBEX\0"
-    "setct-AuthTokenTBE\0" "setct-CapTokenTBE\0" "setct-CapTokenTBEX\0" "setct-AcqCardCodeMsgTBE\0"
-    "setct-AuthRevReqTBE\0" "setct-AuthRevResTBE\0" "setct-AuthRevResTBEB\0" "setct-CapReqTBE\0" "setct-CapReqTBEX\0"
-    "setct-CapResTBE\0" "setct-CapRevReqTBE\0" "setct-CapRevReqTBEX\0" "setct-CapRevResTBE\0" "setct-CredReqTBE\0"
-    "setct-CredReqTBEX\0" "setct-CredResTBE\0" "setct-CredRevReqTBE\0", "setct-CredRevReqTBEX\0" "setct-CredRevResTBE\0"
-    "setct-BatchAdminReqTBE\0" "setct-BatchAdminResTBE\0" "setct-RegFormReqTBE\0" "setct-CertReqTBE\0"
-    "setct-CertReqTBEX\0" "setct-CertResTBE\0" "setct-CRLNotificationTBS\0" "setct-CRLNotificationResTBS\0"
-    "setct-BCIDistributionTBS\0" "set-msgExt\0" "message extensions\0" "setext-genCrypt\0" "generic cryptogram\0"
-    "setext-miAuth\0" "merchant initiated auth\0" "setext-pinSecure\0" "setext-pinAny\0" "setext-track2\0" "setext-cv\0"
-    "additional verification\0" "set-attr\0" "setAttr-Cert\0" "set-rootKeyThumb\0" "set-addPolicy\0"
-    "setAttr-PGWYcap\0", "payment gateway capabilities\0" "setAttr-TokenType\0" "setAttr-Token-EMV\0"
-    "setAttr-Token-B0Prime\0" "setAttr-IssCap\0" "issuer capabilities\0" "setAttr-IssCap-CVM\0" "setAttr-GenCryptgrm\0"
-    "generate cryptogram\0" "setAttr-IssCap-T2\0" "setAttr-T2Enc\0" "encrypted track 2\0" "setAttr-T2cleartxt\0"
-    "cleartext track 2\0" "setAttr-IssCap-Sig\0" "setAttr-TokICCsig\0" "ICC or token signature\0" "setAttr-SecDevSig\0"
-    "secure device signature\0" "set-policy\0" "set-policy-root\0" "set-certExt\0" "certificate extensions\0"
-    "setCext-hashedRoot\0" "setCext-certType\0" "setCext-merchData\0" "setCext-cCertRequired\0", "setCext-tunneling\0"
-    "setCext-setExt\0" "setCext-setQualf\0" "setCext-PGWYcapabilities\0" "setCext-TokenIdentifier\0"
-    "setCext-Track2Data\0" "setCext-TokenType\0" "setCext-IssuerCapabilities\0" "set-brand\0" "set-brand-IATA-ATA\0"
-    "set-brand-Visa\0" "set-brand-MasterCard\0" "set-brand-Diners\0" "set-brand-AmericanExpress\0" "set-brand-JCB\0"
-    "set-brand-Novus\0" "wap\0" "wap-wsg\0" "wap-wsg-idm-ecid-wtls1\0" "wap-wsg-idm-ecid-wtls3\0"
-    "wap-wsg-idm-ecid-wtls4\0" "wap-wsg-idm-ecid-wtls5\0" "wap-wsg-idm-ecid-wtls6\0" "wap-wsg-idm-ecid-wtls7\0"
-    "wap-wsg-idm-ecid-wtls8\0" "wap-wsg-idm-ecid-wtls9\0", "wap-wsg-idm-ecid-wtls10\0" "wap-wsg-idm-ecid-wtls11\0"
-    "wap-wsg-idm-ecid-wtls12\0" "tcg\0" "Trusted Computing Group\0" "Trusted Computing Group Attributes\0"
-    "TPM Manufacturer\0" "TPM Model\0" "TPM Version\0" "Security Qualities\0" "TPM Protection Profile\0"
-    "TPM Security Target\0" "TBB Protection Profile\0" "TBB Security Target\0" "TPM ID Label\0" "TPM Specification\0"
-    "TPM Platform Specification\0" "TPM Security Assertions\0" "TBB Security Assertions\0"
+    "LDAP_CONTROL_AUTHZID_RESPONSE\0" "LDAP_CONTROL_AUTHZID_REQUEST\0" "LDAP_CONTROL_PROXY_AUTHZ\0"
+    "krbPrincipalAuthInd\0" "nsSGC\0", "Netscape Server Gated Crypto\0" "NetscapeServerGatedCrypto\0"
+    "ExtKeyUsageNetscapeServerGatedCrypto\0" "oracle-organization\0" "Oracle organization\0"
+    "oracle-jdk-trustedkeyusage\0" "Trusted key usage (Oracle)\0" "trusted_key_usage\0" "international-organizations\0"
+    "International Organizations\0" "id-set\0" "Secure Electronic Transactions\0" "set-ctype\0" "content types\0"
+    "setct-PANData\0" "setct-PANToken\0" "setct-PANOnly\0" "setct-OIData\0" "setct-PI\0" "setct-PIData\0"
+    "setct-PIDataUnsigned\0" "setct-HODInput\0" "setct-AuthResBaggage\0" "setct-AuthRevReqBaggage\0"
+    "setct-AuthRevResBaggage\0", "setct-CapTokenSeq\0" "setct-PInitResData\0" "setct-PI-TBS\0" "setct-PResData\0"
+    "setct-AuthReqTBS\0" "setct-AuthResTBS\0" "setct-AuthResTBSX\0" "setct-AuthTokenTBS\0" "setct-CapTokenData\0"
+    "setct-CapTokenTBS\0" "setct-AcqCardCodeMsg\0" "setct-AuthRevReqTBS\0" "setct-AuthRevResData\0"
+    "setct-AuthRevResTBS\0" "setct-CapReqTBS\0" "setct-CapReqTBSX\0" "setct-CapResData\0" "setct-CapRevReqTBS\0"
+    "setct-CapRevReqTBSX\0" "setct-CapRevResData\0" "setct-CredReqTBS\0" "setct-CredReqTBSX\0" "setct-CredResData\0"
+    "setct-CredRevReqTBS\0" "setct-CredRevReqTBSX\0" "setct-CredRevResData\0" "setct-PCertReqData\0",
+    "setct-PCertResTBS\0" "setct-BatchAdminReqData\0" "setct-BatchAdminResData\0" "setct-CardCInitResTBS\0"
+    "setct-MeAqCInitResTBS\0" "setct-RegFormResTBS\0" "setct-CertReqData\0" "setct-CertReqTBS\0" "setct-CertResData\0"
+    "setct-CertInqReqTBS\0" "setct-ErrorTBS\0" "setct-PIDualSignedTBE\0" "setct-PIUnsignedTBE\0" "setct-AuthReqTBE\0"
+    "setct-AuthResTBE\0" "setct-AuthResTBEX\0" "setct-AuthTokenTBE\0" "setct-CapTokenTBE\0" "setct-CapTokenTBEX\0"
+    "setct-AcqCardCodeMsgTBE\0" "setct-AuthRevReqTBE\0" "setct-AuthRevResTBE\0" "setct-AuthRevResTBEB\0"
+    "setct-CapReqTBE\0" "setct-CapReqTBEX\0" "setct-CapResTBE\0", "setct-CapRevReqTBE\0" "setct-CapRevReqTBEX\0"
+    "setct-CapRevResTBE\0" "setct-CredReqTBE\0" "setct-CredReqTBEX\0" "setct-CredResTBE\0" "setct-CredRevReqTBE\0"
+    "setct-CredRevReqTBEX\0" "setct-CredRevResTBE\0" "setct-BatchAdminReqTBE\0" "setct-BatchAdminResTBE\0"
+    "setct-RegFormReqTBE\0" "setct-CertReqTBE\0" "setct-CertReqTBEX\0" "setct-CertResTBE\0" "setct-CRLNotificationTBS\0"
+    "setct-CRLNotificationResTBS\0" "setct-BCIDistributionTBS\0" "set-msgExt\0" "message extensions\0"
+    "setext-genCrypt\0" "generic cryptogram\0" "setext-miAuth\0" "merchant initiated auth\0" "setext-pinSecure\0"
+    "setext-pinAny\0", "setext-track2\0" "setext-cv\0" "additional verification\0" "set-attr\0" "setAttr-Cert\0"
+    "set-rootKeyThumb\0" "set-addPolicy\0" "setAttr-PGWYcap\0" "payment gateway capabilities\0" "setAttr-TokenType\0"
+    "setAttr-Token-EMV\0" "setAttr-Token-B0Prime\0" "setAttr-IssCap\0" "issuer capabilities\0" "setAttr-IssCap-CVM\0"
+    "setAttr-GenCryptgrm\0" "generate cryptogram\0" "setAttr-IssCap-T2\0" "setAttr-T2Enc\0" "encrypted track 2\0"
+    "setAttr-T2cleartxt\0" "cleartext track 2\0" "setAttr-IssCap-Sig\0" "setAttr-TokICCsig\0" "ICC or token signature\0"
+    "setAttr-SecDevSig\0" "secure device signature\0" "set-policy\0", "set-policy-root\0" "set-certExt\0"
+    "certificate extensions\0" "setCext-hashedRoot\0" "setCext-certType\0" "setCext-merchData\0"
+    "setCext-cCertRequired\0" "setCext-tunneling\0" "setCext-setExt\0" "setCext-setQualf\0" "setCext-PGWYcapabilities\0"
+    "setCext-TokenIdentifier\0" "setCext-Track2Data\0" "setCext-TokenType\0" "setCext-IssuerCapabilities\0"
+    "set-brand\0" "set-brand-IATA-ATA\0" "set-brand-Visa\0" "set-brand-MasterCard\0" "set-brand-Diners\0"
+    "set-brand-AmericanExpress\0" "set-brand-JCB\0" "set-brand-Novus\0" "wap\0" "wap-wsg\0" "wap-wsg-idm-ecid-wtls1\0"
+    "wap-wsg-idm-ecid-wtls3\0" "wap-wsg-idm-ecid-wtls4\0", "wap-wsg-idm-ecid-wtls5\0" "wap-wsg-idm-ecid-wtls6\0"
+    "wap-wsg-idm-ecid-wtls7\0" "wap-wsg-idm-ecid-wtls8\0" "wap-wsg-idm-ecid-wtls9\0" "wap-wsg-idm-ecid-wtls10\0"
+    "wap-wsg-idm-ecid-wtls11\0" "wap-wsg-idm-ecid-wtls12\0" "tcg\0" "Trusted Computing Group\0"
+    "Trusted Computing Group Attributes\0" "TPM Manufacturer\0" "tpm_manufacturer\0" "TPM Model\0" "tpm_model\0"
+    "TPM Version\0" "tpm_version\0" "platform_manufacturer\0" "platform_model\0" "platform_version\0"
+    "Security Qualities\0" "TPM Protection Profile\0" "TPM Security Target\0" "TBB Protection Profile\0"
+    "TBB Security Target\0" "TPM ID Label\0", "TPM Specification\0" "tpm_specification\0" "TPM Platform Specification\0"
+    "tcg_platform_specification\0" "TPM Security Assertions\0" "tpm_security_assertions\0" "TBB Security Assertions\0"
     "tcg-at-tcgCredentialSpecification\0" "TCG Credential Specification\0" "tcg-at-tcgCredentialType\0"
-    "TCG Credential Type\0", "tcg-at-previousPlatformCertificates\0" "TCG Previous Platform Certificates\0"
+    "TCG Credential Type\0" "tcg-at-previousPlatformCertificates\0" "TCG Previous Platform Certificates\0"
     "tcg-at-tbbSecurityAssertions-v3\0" "TCG TBB Security Assertions V3\0" "tcg-at-cryptographicAnchors\0"
-    "TCG Cryptographic Anchors\0" "Trusted Computing Group Protocols\0" "TCG TPM Protocol\0"
+    "TCG Cryptographic Anchors\0" "Trusted Computing Group Protocols\0" "TCG TPM Protocol\0",
     "Trusted Computing Group Algorithms\0" "TCG NULL Algorithm\0" "tcg-platformClass\0"
     "Trusted Computing Group Platform Classes\0" "tcg-common\0" "Trusted Computing Group Common\0"
-    "tcg-at-platformManufacturerStr\0" "TCG Platform Manufacturer String\0" "tcg-at-platformManufacturerId\0",
+    "tcg-at-platformManufacturerStr\0" "TCG Platform Manufacturer String\0" "tcg-at-platformManufacturerId\0"
     "TCG Platform Manufacturer ID\0" "tcg-at-platformConfigUri\0" "TCG Platform Configuration URI\0"
     "tcg-at-platformModel\0" "TCG Platform Model\0" "tcg-at-platformVersion\0" "TCG Platform Version\0"
-    "tcg-at-platformSerial\0" "TCG Platform Serial Number\0" "tcg-at-platformConfiguration\0"
+    "tcg-at-platformSerial\0" "TCG Platform Serial Number\0" "tcg-at-platformConfiguration\0",
     "TCG Platform Configuration\0" "tcg-at-platformConfiguration-v1\0" "Platform Configuration Version 1\0"
     "tcg-at-platformConfiguration-v2\0" "Platform Configuration Version 2\0" "tcg-at-platformConfiguration-v3\0"
-    "Platform Configuration Version 3\0" "tcg-at-platformConfigUri-v3\0", "Platform Configuration URI Version 3\0"
+    "Platform Configuration Version 3\0" "tcg-at-platformConfigUri-v3\0" "Platform Configuration URI Version 3\0"
     "tcg-at-platformIdentifier\0" "TCG Platform Identifier\0" "Trusted Computing Group Certificate Extensions\0"
     "Relevant Credentials\0" "Relevant Manifests\0" "Virtual Platform Attestation Service\0"
-    "Migration Controller Attestation Service\0" "Migration Controller Registration Service\0"
+    "Migration Controller Attestation Service\0", "Migration Controller Registration Service\0"
     "Virtual Platform Backup Service\0" "Trusted Computing Group Key Purposes\0" "Endorsement Key Certificate\0"
-    "tcg-kp-PlatformAttributeCertificate\0" "Platform Attribute Certificate\0" "Platform Certificate\0",
+    "tcg-kp-PlatformAttributeCertificate\0" "Platform Attribute Certificate\0" "Platform Certificate\0"
     "Attestation Identity Key Certificate\0" "tcg-kp-PlatformKeyCertificate\0" "Platform Key Certificate\0"
     "tcg-kp-DeltaPlatformAttributeCertificate\0" "Delta Platform Attribute Certificate\0"
     "tcg-kp-DeltaPlatformKeyCertificate\0" "Delta Platform Key Certificate\0"
-    "tcg-kp-AdditionalPlatformAttributeCertificate\0" "Additional Platform Attribute Certificate\0"
+    "tcg-kp-AdditionalPlatformAttributeCertificate\0", "Additional Platform Attribute Certificate\0"
     "tcg-kp-AdditionalPlatformKeyCertificate\0" "Additional Platform Key Certificate\0" "tcg-ca\0"
-    "Trusted Computing Group Certificate Policies\0" "tcg-cap-verifiedPlatformCertificate\0",
+    "Trusted Computing Group Certificate Policies\0" "tcg-cap-verifiedPlatformCertificate\0"
     "TCG Verified Platform Certificate CA Policy\0" "tcg-address\0" "Trusted Computing Group Address Formats\0"
     "tcg-address-ethernetmac\0" "Ethernet MAC Address\0" "tcg-address-wlanmac\0" "WLAN MAC Address\0"
     "tcg-address-bluetoothmac\0" "Bluetooth MAC Address\0" "tcg-registry\0" "Trusted Computing Group Registry\0"
-    "tcg-registry-componentClass\0" "TCG Component Class\0" "tcg-registry-componentClass-tcg\0"
+    "tcg-registry-componentClass\0", "TCG Component Class\0" "tcg-registry-componentClass-tcg\0"
     "Trusted Computed Group Registry\0" "tcg-registry-componentClass-ietf\0"
-    "Internet Engineering Task Force Registry\0" "tcg-registry-componentClass-dmtf\0",
+    "Internet Engineering Task Force Registry\0" "tcg-registry-componentClass-dmtf\0"
     "Distributed Management Task Force Registry\0" "tcg-registry-componentClass-pcie\0" "PCIE Component Class\0"
     "tcg-registry-componentClass-disk\0" "Disk Component Class\0" "tcg-traits\0" "Trusted Computing Group Traits\0"
     "tcg-tr-ID\0" "TCG Trait Identifiers\0" "tcg-tr-ID-Boolean\0" "Boolean Trait\0" "tcg-tr-ID-CertificateIdentifier\0"
-    "Certificate Identifier Trait\0" "tcg-tr-ID-CommonCriteria\0" "Common Criteria Trait\0" "tcg-tr-ID-componentClass\0"
-    "Component Class Trait\0" "tcg-tr-ID-componentIdentifierV11\0" "Component Identifier V1.1 Trait\0"
-    "tcg-tr-ID-FIPSLevel\0", "FIPS Level Trait\0" "tcg-tr-ID-ISO9000Level\0" "ISO 9000 Level Trait\0"
-    "tcg-tr-ID-networkMAC\0" "Network MAC Trait\0" "tcg-tr-ID-OID\0" "Object Identifier Trait\0" "tcg-tr-ID-PEN\0"
-    "Private Enterprise Number Trait\0" "tcg-tr-ID-platformFirmwareCapabilities\0"
-    "Platform Firmware Capabilities Trait\0" "tcg-tr-ID-platformFirmwareSignatureVerification\0"
-    "Platform Firmware Signature Verification Trait\0" "tcg-tr-ID-platformFirmwareUpdateCompliance\0"
-    "Platform Firmware Update Compliance Trait\0" "tcg-tr-ID-platformHardwareCapabilities\0",
-    "Platform Hardware Capabilities Trait\0" "tcg-tr-ID-RTM\0" "Root of Trust for Measurement Trait\0"
-    "tcg-tr-ID-status\0" "Attribute Status Trait\0" "tcg-tr-ID-URI\0" "Uniform Resource Identifier Trait\0"
-    "tcg-tr-ID-UTF8String\0" "UTF8String Trait\0" "tcg-tr-ID-IA5String\0" "IA5String Trait\0"
-    "tcg-tr-ID-PEMCertString\0" "PEM-Encoded Certificate String Trait\0" "tcg-tr-ID-PublicKey\0" "Public Key Trait\0"
-    "tcg-tr-category\0" "TCG Trait Categories\0" "tcg-tr-cat-platformManufacturer\0"
-    "Platform Manufacturer Trait Category\0" "tcg-tr-cat-platformModel\0" "Platform Model Trait Category\0",
+    "Certificate Identifier Trait\0", "tcg-tr-ID-CommonCriteria\0" "Common Criteria Trait\0"
+    "tcg-tr-ID-componentClass\0" "Component Class Trait\0" "tcg-tr-ID-componentIdentifierV11\0"
+    "Component Identifier V1.1 Trait\0" "tcg-tr-ID-FIPSLevel\0" "FIPS Level Trait\0" "tcg-tr-ID-ISO9000Level\0"
+    "ISO 9000 Level Trait\0" "tcg-tr-ID-networkMAC\0" "Network MAC Trait\0" "tcg-tr-ID-OID\0"
+    "Object Identifier Trait\0" "tcg-tr-ID-PEN\0" "Private Enterprise Number Trait\0"
+    "tcg-tr-ID-platformFirmwareCapabilities\0" "Platform Firmware Capabilities Trait\0"
+    "tcg-tr-ID-platformFirmwareSignatureVerification\0", "Platform Firmware Signature Verification Trait\0"
+    "tcg-tr-ID-platformFirmwareUpdateCompliance\0" "Platform Firmware Update Compliance Trait\0"
+    "tcg-tr-ID-platformHardwareCapabilities\0" "Platform Hardware Capabilities Trait\0" "tcg-tr-ID-RTM\0"
+    "Root of Trust for Measurement Trait\0" "tcg-tr-ID-status\0" "Attribute Status Trait\0" "tcg-tr-ID-URI\0"
+    "Uniform Resource Identifier Trait\0" "tcg-tr-ID-UTF8String\0" "UTF8String Trait\0" "tcg-tr-ID-IA5String\0"
+    "IA5String Trait\0" "tcg-tr-ID-PEMCertString\0" "PEM-Encoded Certificate String Trait\0" "tcg-tr-ID-PublicKey\0",
+    "Public Key Trait\0" "tcg-tr-category\0" "TCG Trait Categories\0" "tcg-tr-cat-platformManufacturer\0"
+    "Platform Manufacturer Trait Category\0" "tcg-tr-cat-platformModel\0" "Platform Model Trait Category\0"
     "tcg-tr-cat-platformVersion\0" "Platform Version Trait Category\0" "tcg-tr-cat-platformSerial\0"
     "Platform Serial Trait Category\0" "tcg-tr-cat-platformManufacturerIdentifier\0"
     "Platform Manufacturer Identifier Trait Category\0" "tcg-tr-cat-platformOwnership\0"
-    "Platform Ownership Trait Category\0" "tcg-tr-cat-componentClass\0" "Component Class Trait Category\0"
+    "Platform Ownership Trait Category\0" "tcg-tr-cat-componentClass\0" "Component Class Trait Category\0",
     "tcg-tr-cat-componentManufacturer\0" "Component Manufacturer Trait Category\0" "tcg-tr-cat-componentModel\0"
-    "Component Model Trait Category\0" "tcg-tr-cat-componentSerial\0", "Component Serial Trait Category\0"
+    "Component Model Trait Category\0" "tcg-tr-cat-componentSerial\0" "Component Serial Trait Category\0"
     "tcg-tr-cat-componentStatus\0" "Component Status Trait Category\0" "tcg-tr-cat-componentLocation\0"
     "Component Location Trait Category\0" "tcg-tr-cat-componentRevision\0" "Component Revision Trait Category\0"
     "tcg-tr-cat-componentFieldReplaceable\0" "Component Field Replaceable Trait Category\0" "tcg-tr-cat-EKCertificate\0"
-    "EK Certificate Trait Category\0" "tcg-tr-cat-IAKCertificate\0" "IAK Certificate Trait Category\0"
-    "tcg-tr-cat-IDevIDCertificate\0" "IDevID Certificate Trait Category\0" "tcg-tr-cat-DICECertificate\0",
+    "EK Certificate Trait Category\0", "tcg-tr-cat-IAKCertificate\0" "IAK Certificate Trait Category\0"
+    "tcg-tr-cat-IDevIDCertificate\0" "IDevID Certificate Trait Category\0" "tcg-tr-cat-DICECertificate\0"
     "DICE Certificate Trait Category\0" "tcg-tr-cat-SPDMCertificate\0" "SPDM Certificate Trait Category\0"
     "tcg-tr-cat-PEMCertificate\0" "PEM Certificate Trait Category\0" "tcg-tr-cat-PlatformCertificate\0"
     "Platform Certificate Trait Category\0" "tcg-tr-cat-DeltaPlatformCertificate\0"
-    "Delta Platform Certificate Trait Category\0" "tcg-tr-cat-RebasePlatformCertificate\0"
+    "Delta Platform Certificate Trait Category\0" "tcg-tr-cat-RebasePlatformCertificate\0",
     "Rebase Platform Certificate Trait Category\0" "tcg-tr-cat-genericCertificate\0"
-    "Generic Certificate Trait Category\0" "tcg-tr-cat-CommonCriteria\0" "Common Criteria Trait Category\0",
+    "Generic Certificate Trait Category\0" "tcg-tr-cat-CommonCriteria\0" "Common Criteria Trait Category\0"
     "tcg-tr-cat-componentIdentifierV11\0" "Component Identifier V1.1 Trait Category\0" "tcg-tr-cat-FIPSLevel\0"
     "FIPS Level Trait Category\0" "tcg-tr-cat-ISO9000\0" "ISO 9000 Trait Category\0" "tcg-tr-cat-networkMAC\0"
     "Network MAC Trait Category\0" "tcg-tr-cat-attestationProtocol\0" "Attestation Protocol Trait Category\0"
-    "tcg-tr-cat-PEN\0" "Private Enterprise Number Trait Category\0" "tcg-tr-cat-platformFirmwareCapabilities\0"
+    "tcg-tr-cat-PEN\0" "Private Enterprise Number Trait Category\0", "tcg-tr-cat-platformFirmwareCapabilities\0"
     "Platform Firmware Capabilities Trait Category\0" "tcg-tr-cat-platformHardwareCapabilities\0"
-    "Platform Hardware Capabilities Trait Category\0", "tcg-tr-cat-platformFirmwareSignatureVerification\0"
+    "Platform Hardware Capabilities Trait Category\0" "tcg-tr-cat-platformFirmwareSignatureVerification\0"
     "Platform Firmware Signature Verification Trait Category\0" "tcg-tr-cat-platformFirmwareUpdateCompliance\0"
     "Platform Firmware Update Compliance Trait Category\0" "tcg-tr-cat-RTM\0"
     "Root of Trust of Measurement Trait Category\0" "tcg-tr-cat-PublicKey\0" "Public Key Trait Category\0"
-    "tcg-tr-registry\0" "TCG Trait Registries\0" "ca-browser-forum\0" "certificate-policies\0" "extended-validation\0"
-    "ev-guidelines\0" "Extended Validation\0" "baseline-requirements\0" "domain-validated\0" "Domain Validation\0",
+    "tcg-tr-registry\0", "TCG Trait Registries\0" "ca-browser-forum\0" "certificate-policies\0" "extended-validation\0"
+    "ev-guidelines\0" "Extended Validation\0" "baseline-requirements\0" "domain-validated\0" "Domain Validation\0"
     "organization-validated\0" "Organization Validation\0" "individual-validated\0" "Individual Validation\0"
     "extended-validation-codesigning\0" "Extended Validation (Code Signing)\0" "code-signing-requirements\0"
     "code-signing\0" "smime-baseline\0" "mailbox-validated\0" "smime-organization-validated\0" "sponsor-validated\0"
-    "smime-individual-validated\0" "cabf-TorServiceDescriptor\0" "test-certificate\0" "certificate-extensions\0"
-    "cabf-organization-identifier\0" "cabfOrganizationIdentifier\0" "cabf-caSigningNonce\0"
-    "cabf-applicantSigningNonce\0" "\0"
+    "smime-individual-validated\0" "cabf-TorServiceDescriptor\0", "test-certificate\0" "certificate-extensions\0"
+    "cabf-organization-identifier\0" "cabfOrganizationIdentifier\0" "id-CABFOrganizationIdentifier\0"
+    "cabf-caSigningNonce\0" "cabf-applicantSigningNonce\0" "\0"
 };
 
 /* An entry: where its name and its octets are, at 512 times the index of their part, and their lengths. */
@@ -2211,941 +2963,1288 @@ typedef struct const_oid_common_entry {
 } const_oid_common_entry;
 
 CONST_OID_TABLE const const_oid_common_entry const_oid_common_entries[CONST_OID_COMMON_NAMES_COUNT + 1] = {
-    {0, 0, 11, 1}, {12, 1, 16, 8}, {29, 1, 16, 8}, {46, 9, 16, 8}, {63, 9, 16, 8}, {80, 17, 16, 8}, {97, 17, 16, 8},
-    {114, 25, 16, 8}, {131, 25, 16, 8}, {148, 33, 16, 8}, {165, 33, 16, 8}, {182, 41, 16, 8}, {199, 41, 16, 8},
-    {216, 49, 17, 8}, {234, 49, 17, 8}, {252, 57, 16, 8}, {269, 57, 16, 8}, {286, 65, 16, 8}, {303, 65, 16, 8},
-    {320, 73, 16, 8}, {337, 73, 16, 8}, {354, 81, 16, 8}, {371, 81, 16, 8}, {388, 89, 16, 8}, {405, 89, 16, 8},
-    {422, 97, 16, 8}, {439, 97, 16, 8}, {456, 105, 17, 8}, {474, 105, 17, 8}, {492, 113, 16, 8}, {512, 113, 16, 8},
-    {529, 121, 16, 8}, {546, 121, 16, 8}, {563, 129, 16, 8}, {580, 129, 16, 8}, {597, 137, 16, 8}, {614, 137, 16, 8},
-    {631, 145, 16, 8}, {648, 145, 16, 8}, {665, 153, 16, 8}, {682, 153, 16, 8}, {699, 161, 17, 8}, {717, 161, 17, 8},
-    {735, 169, 29, 1}, {765, 170, 4, 2}, {770, 172, 29, 4}, {800, 176, 14, 5}, {815, 181, 18, 6}, {834, 187, 28, 6},
-    {863, 193, 33, 6}, {897, 199, 28, 6}, {926, 205, 18, 6}, {945, 211, 5, 5}, {951, 216, 16, 6}, {968, 222, 22, 7},
-    {991, 229, 24, 7}, {1024, 236, 21, 7}, {1046, 243, 21, 7}, {1068, 250, 15, 7}, {1084, 257, 4, 1}, {1089, 258, 3, 3},
-    {1093, 261, 3, 7}, {1097, 268, 5, 8}, {1103, 276, 18, 9}, {1122, 285, 7, 10}, {1130, 295, 19, 10},
-    {1150, 305, 18, 10}, {1169, 305, 16, 10}, {1186, 315, 20, 10}, {1207, 325, 3, 10}, {1211, 335, 20, 9},
-    {1232, 344, 15, 10}, {1248, 354, 25, 10}, {1274, 364, 16, 9}, {1291, 373, 14, 10}, {1306, 383, 14, 10},
-    {1321, 393, 11, 9}, {1333, 402, 4, 5}, {1338, 402, 4, 5}, {1343, 407, 9, 6}, {1353, 413, 10, 7}, {1364, 420, 11, 1},
-    {1376, 420, 15, 1}, {1392, 421, 6, 3}, {1399, 421, 18, 3}, {1418, 424, 5, 5}, {1424, 429, 9, 6}, {1434, 435, 7, 8},
-    {1442, 435, 7, 8}, {1450, 443, 7, 8}, {1458, 443, 7, 8}, {1466, 443, 3, 8}, {1470, 451, 7, 8}, {1478, 451, 7, 8},
-    {1486, 451, 10, 8}, {1497, 459, 7, 8}, {1505, 459, 7, 8}, {1513, 459, 10, 8}, {1524, 467, 8, 8}, {1536, 467, 8, 8},
-    {1545, 475, 8, 8}, {1554, 475, 8, 8}, {1563, 483, 7, 8}, {1571, 483, 7, 8}, {1579, 491, 7, 8}, {1587, 491, 7, 8},
-    {1595, 499, 7, 8}, {1603, 499, 7, 8}, {1611, 512, 7, 8}, {1619, 512, 7, 8}, {1627, 520, 3, 8}, {1631, 520, 3, 8},
-    {1635, 528, 3, 8}, {1639, 528, 3, 8}, {1643, 536, 11, 10}, {1655, 546, 7, 8}, {1663, 546, 12, 8}, {1676, 554, 7, 8},
-    {1684, 554, 20, 8}, {1705, 562, 16, 11}, {1722, 562, 16, 11}, {1739, 562, 11, 11}, {1751, 562, 18, 11},
-    {1770, 573, 16, 11}, {1787, 573, 16, 11}, {1804, 573, 11, 11}, {1816, 573, 18, 11}, {1835, 584, 16, 11},
-    {1852, 584, 16, 11}, {1869, 584, 11, 11}, {1881, 584, 18, 11}, {1900, 595, 19, 11}, {1920, 606, 19, 11},
-    {1940, 617, 19, 11}, {1960, 628, 4, 6}, {1965, 628, 4, 6}, {1970, 634, 8, 8}, {1979, 634, 8, 8}, {1988, 642, 8, 8},
-    {1997, 642, 8, 8}, {2006, 642, 10, 8}, {2017, 650, 8, 8}, {2026, 650, 8, 8}, {2035, 658, 8, 8}, {2048, 658, 8, 8},
-    {2057, 666, 12, 9}, {2070, 666, 12, 9}, {2083, 675, 12, 9}, {2096, 675, 12, 9}, {2109, 675, 7, 9},
-    {2117, 684, 12, 9}, {2130, 684, 12, 9}, {2143, 693, 12, 9}, {2156, 693, 12, 9}, {2169, 702, 12, 9},
-    {2182, 702, 12, 9}, {2195, 711, 12, 9}, {2208, 711, 12, 9}, {2221, 720, 12, 9}, {2234, 720, 12, 9},
-    {2247, 720, 7, 9}, {2255, 729, 12, 9}, {2268, 729, 12, 9}, {2281, 738, 12, 9}, {2294, 738, 12, 9},
-    {2307, 747, 12, 9}, {2320, 747, 12, 9}, {2333, 756, 12, 9}, {2346, 756, 12, 9}, {2359, 765, 12, 9},
-    {2372, 765, 12, 9}, {2385, 765, 7, 9}, {2393, 774, 12, 9}, {2406, 774, 12, 9}, {2419, 783, 12, 9},
-    {2432, 783, 12, 9}, {2445, 792, 12, 9}, {2458, 792, 12, 9}, {2471, 801, 12, 9}, {2484, 801, 12, 9},
-    {2497, 810, 12, 9}, {2510, 810, 12, 9}, {2523, 819, 12, 9}, {2536, 819, 12, 9}, {2560, 828, 12, 9},
-    {2573, 828, 12, 9}, {2586, 837, 12, 9}, {2599, 837, 12, 9}, {2612, 846, 12, 9}, {2625, 846, 12, 9},
-    {2638, 855, 9, 5}, {2648, 860, 35, 6}, {2684, 860, 38, 6}, {2723, 860, 11, 6}, {2735, 866, 33, 6},
-    {2769, 866, 36, 6}, {2806, 872, 9, 6}, {2816, 872, 15, 6}, {2832, 872, 11, 6}, {2844, 878, 19, 6},
-    {2864, 878, 18, 6}, {2883, 884, 31, 7}, {2915, 891, 36, 7}, {2952, 898, 8, 6}, {2961, 898, 17, 6},
-    {2979, 904, 6, 6}, {2986, 904, 15, 6}, {3002, 910, 17, 7}, {3020, 917, 20, 7}, {3041, 924, 17, 7},
-    {3072, 931, 20, 7}, {3093, 938, 6, 6}, {3100, 938, 13, 6}, {3114, 944, 8, 6}, {3123, 944, 17, 6},
-    {3141, 950, 16, 6}, {3158, 950, 19, 6}, {3178, 956, 28, 7}, {3207, 963, 33, 7}, {3241, 970, 28, 7},
-    {3270, 977, 36, 7}, {3307, 984, 36, 7}, {3344, 991, 36, 7}, {3381, 998, 36, 7}, {3418, 1005, 44, 7},
-    {3463, 1012, 44, 7}, {3508, 1024, 40, 7}, {3549, 1031, 28, 7}, {3584, 1038, 36, 7}, {3621, 1045, 36, 7},
-    {3658, 1052, 36, 7}, {3695, 1059, 36, 7}, {3732, 1066, 39, 7}, {3772, 1073, 39, 7}, {3812, 1080, 39, 7},
-    {3852, 1087, 30, 7}, {3883, 1094, 38, 7}, {3922, 1101, 38, 7}, {3961, 1108, 38, 7}, {4000, 1115, 41, 7},
-    {4042, 1122, 41, 7}, {4096, 1129, 19, 6}, {4116, 1129, 20, 6}, {4137, 1135, 17, 6}, {4155, 1135, 18, 6},
-    {4174, 1141, 9, 5}, {4184, 1146, 36, 8}, {4221, 1146, 46, 8}, {4268, 1154, 38, 8}, {4307, 1154, 48, 8},
-    {4356, 1162, 8, 8}, {4365, 1162, 23, 8}, {4389, 1170, 10, 8}, {4400, 1170, 25, 8}, {4426, 1178, 18, 8},
-    {4445, 1178, 32, 8}, {4478, 1186, 29, 8}, {4508, 1186, 40, 8}, {4549, 1194, 3, 8}, {4553, 1202, 7, 5},
-    {4561, 1207, 18, 6}, {4580, 1213, 12, 7}, {4608, 1220, 12, 8}, {4621, 1220, 38, 8}, {4660, 1228, 12, 8},
-    {4673, 1228, 38, 8}, {4712, 1236, 14, 7}, {4727, 1243, 13, 8}, {4741, 1243, 35, 8}, {4777, 1243, 12, 8},
-    {4790, 1251, 13, 8}, {4804, 1251, 35, 8}, {4840, 1251, 12, 8}, {4853, 1259, 22, 7}, {4876, 1266, 40, 8},
-    {4917, 1266, 50, 8}, {4968, 1266, 15, 8}, {4984, 1274, 40, 8}, {5025, 1274, 50, 8}, {5076, 1274, 15, 8},
-    {5092, 1282, 11, 7}, {5120, 1289, 31, 8}, {5152, 1289, 28, 8}, {5181, 1297, 31, 8}, {5213, 1297, 28, 8},
-    {5242, 1305, 14, 7}, {5257, 1312, 35, 8}, {5293, 1320, 15, 9}, {5309, 1329, 20, 9}, {5330, 1338, 40, 8},
-    {5371, 1346, 20, 9}, {5392, 1355, 25, 9}, {5418, 1364, 17, 7}, {5436, 1371, 36, 8}, {5473, 1379, 36, 8},
-    {5510, 1387, 12, 7}, {5523, 1394, 33, 8}, {5557, 1402, 12, 9}, {5570, 1411, 38, 8}, {5609, 1419, 17, 9},
-    {5632, 1428, 17, 6}, {5650, 1434, 22, 7}, {5673, 1441, 36, 8}, {5710, 1449, 36, 9}, {5747, 1449, 38, 9},
-    {5786, 1458, 36, 9}, {5823, 1458, 38, 9}, {5862, 1467, 36, 9}, {5899, 1467, 38, 9}, {5938, 1476, 36, 9},
-    {5975, 1476, 38, 9}, {6014, 1485, 36, 8}, {6051, 1493, 39, 9}, {6091, 1493, 49, 9}, {6144, 1502, 36, 9},
-    {6181, 1502, 38, 9}, {6220, 1511, 36, 9}, {6257, 1511, 38, 9}, {6296, 1520, 36, 9}, {6333, 1520, 38, 9},
-    {6372, 1536, 24, 7}, {6397, 1543, 24, 7}, {6422, 1550, 28, 8}, {6451, 1558, 26, 9}, {6478, 1558, 32, 9},
-    {6511, 1567, 4, 5}, {6516, 1572, 5, 5}, {6522, 1577, 6, 5}, {6529, 1582, 15, 5}, {6545, 1582, 23, 5},
-    {6569, 1587, 14, 5}, {6584, 1587, 22, 5}, {6607, 1592, 13, 5}, {6621, 1592, 21, 5}, {6656, 1597, 16, 6},
-    {6673, 1597, 25, 6}, {6699, 1603, 16, 6}, {6716, 1603, 25, 6}, {6742, 1609, 16, 6}, {6759, 1609, 25, 6},
-    {6785, 1615, 16, 6}, {6802, 1615, 25, 6}, {6828, 1621, 16, 6}, {6845, 1621, 25, 6}, {6871, 1627, 16, 6},
-    {6888, 1627, 25, 6}, {6914, 1633, 6, 3}, {6921, 1636, 6, 7}, {6928, 1643, 9, 10}, {6938, 1643, 20, 10},
-    {6959, 1653, 13, 11}, {6973, 1653, 29, 11}, {7003, 1664, 13, 11}, {7017, 1664, 29, 11}, {7047, 1675, 14, 11},
-    {7062, 1675, 29, 11}, {7092, 1686, 17, 10}, {7110, 1686, 23, 10}, {7134, 1696, 9, 10}, {7144, 1696, 18, 10},
-    {7168, 1706, 10, 11}, {7179, 1706, 28, 11}, {7208, 1717, 10, 13}, {7219, 1717, 25, 13}, {7245, 1730, 8, 13},
-    {7254, 1730, 12, 13}, {7267, 1743, 8, 13}, {7276, 1743, 12, 13}, {7289, 1756, 8, 13}, {7298, 1756, 12, 13},
-    {7311, 1769, 8, 13}, {7320, 1769, 12, 13}, {7333, 1782, 8, 13}, {7342, 1782, 12, 13}, {7355, 1795, 8, 13},
-    {7364, 1795, 12, 13}, {7377, 1808, 8, 13}, {7386, 1808, 12, 13}, {7399, 1821, 8, 13}, {7408, 1821, 12, 13},
-    {7421, 1834, 8, 13}, {7430, 1834, 12, 13}, {7443, 1847, 8, 13}, {7452, 1847, 12, 13}, {7465, 1860, 31, 11},
-    {7497, 1871, 6, 3}, {7504, 1871, 18, 3}, {7523, 1874, 5, 5}, {7529, 1874, 5, 5}, {7535, 1879, 19, 7},
-    {7555, 1879, 21, 7}, {7577, 1886, 25, 7}, {7603, 1886, 28, 7}, {7632, 1893, 21, 7}, {7680, 1893, 23, 7},
-    {7704, 1900, 4, 6}, {7709, 1900, 10, 6}, {7720, 1906, 3, 7}, {7724, 1906, 13, 7}, {7738, 1906, 24, 7},
-    {7763, 1913, 8, 7}, {7772, 1913, 11, 7}, {7784, 1913, 9, 7}, {7794, 1913, 16, 7}, {7811, 1913, 14, 7},
-    {7826, 1913, 11, 7}, {7838, 1913, 3, 7}, {7842, 1913, 42, 7}, {7885, 1920, 10, 5}, {7896, 1925, 11, 7},
-    {7908, 1932, 24, 7}, {7933, 1939, 27, 8}, {7961, 1947, 7, 9}, {7969, 1956, 7, 9}, {7977, 1965, 7, 9},
-    {7985, 1974, 2, 7}, {7988, 1974, 5, 7}, {7994, 1974, 8, 7}, {8003, 1974, 31, 7}, {8035, 1981, 10, 8},
-    {8046, 1989, 10, 8}, {8057, 1997, 10, 8}, {8068, 2005, 10, 8}, {8079, 2013, 10, 8}, {8090, 2021, 10, 8},
-    {8101, 2029, 10, 8}, {8112, 2037, 10, 8}, {8123, 2048, 10, 8}, {8134, 2056, 10, 8}, {8145, 2064, 10, 8},
-    {8156, 2072, 10, 8}, {8167, 2080, 10, 8}, {8178, 2088, 10, 8}, {8192, 2096, 10, 8}, {8203, 2104, 10, 8},
-    {8214, 2112, 10, 8}, {8225, 2120, 10, 8}, {8236, 2128, 10, 8}, {8247, 2136, 10, 8}, {8258, 2144, 5, 8},
-    {8264, 2144, 10, 8}, {8275, 2144, 9, 8}, {8285, 2144, 10, 8}, {8296, 2144, 4, 8}, {8301, 2152, 10, 8},
-    {8312, 2160, 10, 8}, {8323, 2168, 10, 8}, {8334, 2176, 10, 8}, {8345, 2184, 10, 8}, {8356, 2192, 5, 8},
-    {8362, 2192, 10, 8}, {8373, 2192, 8, 8}, {8382, 2192, 10, 8}, {8393, 2192, 4, 8}, {8398, 2200, 15, 7},
-    {8414, 2200, 11, 7}, {8426, 2200, 10, 7}, {8437, 2200, 16, 7}, {8454, 2200, 13, 7}, {8468, 2200, 32, 7},
-    {8501, 2207, 22, 7}, {8524, 2207, 45, 7}, {8570, 2214, 20, 7}, {8591, 2214, 22, 7}, {8614, 2214, 43, 7},
-    {8658, 2221, 14, 8}, {8673, 2221, 12, 8}, {8704, 2221, 15, 8}, {8720, 2221, 33, 8}, {8754, 2229, 14, 8},
-    {8769, 2229, 12, 8}, {8782, 2229, 5, 8}, {8788, 2229, 18, 8}, {8807, 2229, 15, 8}, {8823, 2229, 33, 8},
-    {8857, 2237, 14, 8}, {8872, 2237, 12, 8}, {8885, 2237, 5, 8}, {8891, 2237, 18, 8}, {8910, 2237, 15, 8},
-    {8926, 2237, 33, 8}, {8960, 2245, 14, 8}, {8975, 2245, 12, 8}, {8988, 2245, 5, 8}, {8994, 2245, 18, 8},
-    {9013, 2245, 15, 8}, {9029, 2245, 33, 8}, {9063, 2253, 8, 7}, {9072, 2253, 3, 7}, {9076, 2253, 16, 7},
-    {9093, 2260, 19, 9}, {9113, 2260, 7, 9}, {9121, 2269, 9, 9}, {9131, 2269, 9, 9}, {9141, 2278, 21, 9},
-    {9163, 2287, 18, 9}, {9182, 2296, 24, 9}, {9216, 2305, 23, 6}, {9240, 2311, 28, 7}, {9269, 2318, 5, 8},
-    {9275, 2326, 6, 9}, {9282, 2326, 20, 9}, {9303, 2326, 22, 9}, {9326, 2335, 7, 9}, {9334, 2335, 10, 9},
-    {9345, 2335, 31, 9}, {9377, 2344, 7, 9}, {9385, 2344, 20, 9}, {9406, 2344, 31, 9}, {9438, 2353, 7, 9},
-    {9446, 2353, 23, 9}, {9470, 2353, 7, 9}, {9478, 2353, 31, 9}, {9510, 2362, 8, 9}, {9519, 2362, 9, 9},
-    {9529, 2362, 25, 9}, {9555, 2362, 8, 9}, {9564, 2362, 33, 9}, {9598, 2371, 20, 9}, {9619, 2380, 10, 9},
-    {9630, 2380, 9, 9}, {9640, 2380, 8, 9}, {9649, 2380, 4, 9}, {9654, 2380, 27, 9}, {9682, 2389, 4, 9},
-    {9687, 2389, 4, 9}, {9728, 2389, 37, 9}, {9766, 2398, 10, 9}, {9777, 2398, 10, 9}, {9788, 2398, 57, 9},
-    {9846, 2407, 10, 9}, {9857, 2407, 9, 9}, {9867, 2407, 7, 9}, {9875, 2407, 13, 9}, {9889, 2407, 13, 9},
-    {9903, 2407, 13, 9}, {9917, 2407, 14, 9}, {9932, 2407, 14, 9}, {9947, 2407, 14, 9}, {9962, 2407, 25, 9},
-    {9988, 2416, 10, 9}, {9999, 2416, 12, 9}, {10012, 2416, 5, 9}, {10018, 2416, 27, 9}, {10046, 2416, 13, 9},
-    {10060, 2416, 10, 9}, {10071, 2416, 35, 9}, {10107, 2425, 10, 9}, {10118, 2425, 12, 9}, {10131, 2425, 5, 9},
-    {10137, 2425, 27, 9}, {10165, 2425, 13, 9}, {10179, 2425, 10, 9}, {10190, 2425, 35, 9}, {10226, 2434, 10, 9},
-    {10240, 2434, 12, 9}, {10253, 2434, 5, 9}, {10259, 2434, 27, 9}, {10287, 2434, 13, 9}, {10301, 2434, 10, 9},
-    {10312, 2434, 35, 9}, {10348, 2443, 10, 9}, {10359, 2443, 12, 9}, {10372, 2443, 13, 9}, {10386, 2443, 35, 9},
-    {10422, 2452, 14, 9}, {10437, 2452, 27, 9}, {10465, 2452, 16, 9}, {10482, 2452, 14, 9}, {10497, 2452, 17, 9},
-    {10515, 2461, 14, 9}, {10530, 2461, 27, 9}, {10558, 2461, 16, 9}, {10575, 2461, 14, 9}, {10590, 2461, 17, 9},
-    {10608, 2470, 5, 8}, {10614, 2478, 14, 9}, {10629, 2478, 2, 9}, {10632, 2478, 13, 9}, {10646, 2487, 5, 8},
-    {10652, 2487, 6, 8}, {10659, 2495, 11, 9}, {10671, 2495, 20, 9}, {10692, 2504, 11, 9}, {10704, 2504, 20, 9},
-    {10725, 2504, 16, 9}, {10752, 2513, 14, 9}, {10767, 2513, 20, 9}, {10788, 2522, 14, 9}, {10803, 2522, 20, 9},
-    {10824, 2522, 16, 9}, {10841, 2531, 12, 9}, {10854, 2531, 21, 9}, {10876, 2531, 17, 9}, {10894, 2540, 15, 9},
-    {10910, 2540, 21, 9}, {10932, 2540, 17, 9}, {10950, 2560, 6, 9}, {10957, 2560, 18, 9}, {10976, 2560, 46, 9},
-    {11023, 2569, 5, 9}, {11029, 2569, 8, 9}, {11038, 2569, 36, 9}, {11075, 2578, 6, 9}, {11082, 2578, 9, 9},
-    {11092, 2578, 40, 9}, {11133, 2587, 5, 8}, {11139, 2587, 6, 8}, {11146, 2587, 7, 8}, {11154, 2595, 10, 9},
-    {11165, 2595, 12, 9}, {11178, 2604, 16, 9}, {11195, 2604, 10, 9}, {11206, 2604, 19, 9}, {11226, 2613, 19, 9},
-    {11246, 2613, 13, 9}, {11264, 2613, 22, 9}, {11287, 2622, 28, 9}, {11316, 2622, 22, 9}, {11339, 2622, 33, 9},
-    {11373, 2631, 16, 9}, {11390, 2631, 12, 9}, {11403, 2631, 21, 9}, {11425, 2640, 19, 9}, {11445, 2640, 13, 9},
-    {11459, 2640, 22, 9}, {11482, 2649, 5, 8}, {11488, 2657, 15, 9}, {11504, 2657, 10, 9}, {11515, 2657, 1, 9},
-    {11517, 2657, 13, 9}, {11531, 2657, 21, 9}, {11553, 2666, 16, 9}, {11570, 2675, 11, 9}, {11582, 2675, 20, 9},
-    {11603, 2684, 13, 9}, {11617, 2684, 22, 9}, {11640, 2693, 11, 9}, {11652, 2693, 20, 9}, {11673, 2702, 16, 9},
-    {11690, 2702, 25, 9}, {11716, 2711, 17, 9}, {11734, 2720, 19, 9}, {11776, 2729, 29, 9}, {11806, 2738, 21, 9},
-    {11828, 2747, 6, 9}, {11835, 2747, 17, 9}, {11853, 2747, 16, 9}, {11870, 2747, 25, 9}, {11896, 2756, 10, 9},
-    {11907, 2756, 19, 9}, {11927, 2756, 15, 9}, {11943, 2756, 27, 9}, {11971, 2765, 6, 9}, {11978, 2774, 12, 10},
-    {11991, 2784, 16, 11}, {12008, 2795, 16, 11}, {12025, 2806, 16, 11}, {12042, 2817, 19, 11}, {12062, 2828, 30, 11},
-    {12093, 2839, 30, 11}, {12124, 2850, 30, 11}, {12155, 2861, 30, 11}, {12186, 2872, 11, 10}, {12198, 2882, 19, 11},
-    {12218, 2882, 7, 11}, {12226, 2893, 20, 11}, {12247, 2893, 17, 11}, {12265, 2893, 8, 11}, {12288, 2904, 23, 11},
-    {12312, 2915, 19, 11}, {12332, 2915, 7, 11}, {12340, 2915, 18, 11}, {12359, 2926, 19, 11}, {12379, 2937, 23, 11},
-    {12403, 2937, 11, 11}, {12415, 2948, 27, 11}, {12443, 2959, 28, 11}, {12472, 2970, 26, 11}, {12499, 2970, 14, 11},
-    {12514, 2981, 15, 11}, {12530, 2992, 29, 11}, {12560, 3003, 29, 11}, {12590, 3003, 17, 11}, {12608, 3014, 22, 11},
-    {12631, 3025, 18, 11}, {12650, 3036, 23, 11}, {12674, 3047, 9, 11}, {12684, 3058, 9, 11}, {12694, 3072, 21, 11},
-    {12716, 3083, 22, 11}, {12739, 3094, 26, 11}, {12766, 3105, 13, 11}, {12780, 3116, 10, 11}, {12800, 3127, 18, 11},
-    {12819, 3138, 24, 11}, {12844, 3149, 21, 11}, {12866, 3160, 10, 11}, {12877, 3171, 15, 11}, {12893, 3182, 26, 11},
-    {12920, 3193, 11, 10}, {12932, 3203, 26, 11}, {12959, 3203, 14, 11}, {12974, 3214, 25, 11}, {13000, 3214, 13, 11},
-    {13014, 3225, 27, 11}, {13042, 3225, 15, 11}, {13058, 3236, 23, 11}, {13082, 3236, 11, 11}, {13094, 3247, 24, 11},
-    {13119, 3247, 12, 11}, {13132, 3258, 28, 11}, {13161, 3269, 29, 11}, {13191, 3269, 17, 11}, {13209, 3280, 20, 11},
-    {13230, 3291, 28, 11}, {13259, 3291, 16, 11}, {13276, 3302, 28, 11}, {13312, 3302, 16, 11}, {13329, 3313, 25, 11},
-    {13355, 3313, 13, 11}, {13369, 3324, 30, 11}, {13400, 3324, 18, 11}, {13419, 3335, 29, 11}, {13449, 3346, 26, 11},
-    {13476, 3346, 14, 11}, {13491, 3346, 29, 11}, {13521, 3346, 23, 11}, {13545, 3357, 27, 11}, {13573, 3357, 21, 11},
-    {13595, 3368, 30, 11}, {13626, 3368, 24, 11}, {13651, 3379, 30, 11}, {13682, 3379, 24, 11}, {13707, 3390, 26, 11},
-    {13734, 3390, 20, 11}, {13755, 3401, 28, 11}, {13784, 3401, 22, 11}, {13824, 3412, 32, 11}, {13857, 3412, 26, 11},
-    {13884, 3423, 31, 11}, {13916, 3423, 25, 11}, {13942, 3434, 30, 11}, {13973, 3434, 24, 11}, {13998, 3445, 26, 11},
-    {14025, 3445, 20, 11}, {14046, 3456, 32, 11}, {14079, 3456, 26, 11}, {14106, 3467, 28, 11}, {14135, 3467, 22, 11},
-    {14158, 3478, 32, 11}, {14191, 3478, 26, 11}, {14218, 3489, 32, 11}, {14251, 3500, 25, 11}, {14277, 3511, 20, 11},
-    {14298, 3522, 29, 11}, {14336, 3533, 28, 11}, {14365, 3544, 32, 11}, {14398, 3544, 20, 11}, {14419, 3555, 28, 11},
-    {14448, 3566, 23, 11}, {14472, 3584, 34, 11}, {14507, 3595, 18, 11}, {14526, 3606, 25, 11}, {14552, 3617, 24, 11},
-    {14577, 3628, 12, 10}, {14590, 3638, 25, 11}, {14616, 3649, 24, 11}, {14641, 3660, 21, 11}, {14663, 3671, 20, 11},
-    {14684, 3682, 17, 11}, {14702, 3693, 24, 11}, {14727, 3693, 9, 11}, {14737, 3704, 23, 11}, {14761, 3715, 4, 11},
-    {14766, 3715, 16, 11}, {14783, 3726, 15, 11}, {14799, 3737, 10, 11}, {14810, 3748, 22, 11}, {14848, 3759, 27, 11},
-    {14876, 3759, 17, 11}, {14894, 3770, 23, 11}, {14918, 3770, 11, 11}, {14930, 3781, 23, 11}, {14954, 3781, 11, 11},
-    {14966, 3792, 23, 11}, {14990, 3792, 11, 11}, {15002, 3803, 11, 10}, {15014, 3813, 16, 11}, {15031, 3824, 12, 10},
-    {15044, 3834, 24, 11}, {15069, 3845, 28, 11}, {15098, 3856, 12, 10}, {15111, 3866, 30, 11}, {15142, 3877, 31, 11},
-    {15174, 3888, 32, 11}, {15207, 3899, 30, 11}, {15238, 3910, 32, 11}, {15271, 3921, 32, 11}, {15304, 3932, 12, 10},
-    {15317, 3942, 16, 11}, {15334, 3953, 12, 9}, {15360, 3953, 21, 9}, {15382, 3962, 10, 9}, {15393, 3962, 20, 9},
-    {15414, 3971, 15, 10}, {15430, 3971, 12, 10}, {15443, 3981, 15, 10}, {15459, 3991, 7, 10}, {15467, 4001, 28, 9},
-    {15496, 4001, 19, 9}, {15516, 4001, 25, 9}, {15542, 4001, 22, 9}, {15565, 4010, 8, 8}, {15574, 4018, 16, 10},
-    {15591, 4018, 23, 10}, {15615, 4018, 21, 10}, {15637, 4028, 15, 10}, {15653, 4028, 22, 10}, {15676, 4028, 20, 10},
-    {15697, 4038, 13, 10}, {15711, 4038, 32, 10}, {15744, 4038, 20, 10}, {15765, 4048, 13, 10}, {15779, 4048, 32, 10},
-    {15812, 4058, 16, 10}, {15829, 4058, 27, 10}, {15872, 4058, 21, 10}, {15894, 4068, 15, 10}, {15910, 4068, 26, 10},
-    {15937, 4068, 20, 10}, {15958, 4078, 6, 11}, {15965, 4078, 9, 11}, {15975, 4096, 19, 11}, {15995, 4096, 22, 11},
-    {16018, 4107, 7, 11}, {16026, 4107, 10, 11}, {16037, 4118, 6, 11}, {16044, 4118, 9, 11}, {16054, 4129, 9, 11},
-    {16064, 4129, 12, 11}, {16077, 4140, 15, 11}, {16093, 4140, 18, 11}, {16112, 4151, 3, 8}, {16116, 4151, 3, 8},
-    {16120, 4159, 3, 8}, {16124, 4159, 3, 8}, {16128, 4167, 3, 8}, {16132, 4167, 3, 8}, {16136, 4167, 8, 8},
-    {16145, 4175, 11, 8}, {16157, 4183, 12, 8}, {16170, 4183, 15, 8}, {16186, 4183, 8, 8}, {16195, 4183, 10, 8},
-    {16206, 4191, 14, 8}, {16221, 4191, 10, 8}, {16232, 4191, 12, 8}, {16245, 4191, 11, 8}, {16257, 4199, 14, 8},
-    {16272, 4199, 5, 8}, {16278, 4199, 10, 8}, {16289, 4199, 12, 8}, {16302, 4199, 11, 8}, {16314, 4207, 14, 8},
-    {16329, 4207, 5, 8}, {16335, 4207, 10, 8}, {16346, 4207, 12, 8}, {16359, 4207, 11, 8}, {16384, 4215, 14, 8},
-    {16399, 4215, 5, 8}, {16405, 4215, 10, 8}, {16416, 4215, 12, 8}, {16429, 4215, 11, 8}, {16441, 4223, 18, 8},
-    {16460, 4223, 21, 8}, {16482, 4223, 14, 8}, {16497, 4231, 18, 8}, {16516, 4231, 21, 8}, {16538, 4231, 14, 8},
-    {16553, 4239, 6, 8}, {16560, 4239, 20, 8}, {16581, 4247, 3, 8}, {16585, 4247, 3, 8}, {16589, 4247, 7, 8},
-    {16597, 4255, 4, 8}, {16602, 4255, 20, 8}, {16623, 4263, 7, 8}, {16631, 4263, 7, 8}, {16639, 4271, 11, 8},
-    {16651, 4271, 20, 8}, {16672, 4279, 8, 8}, {16681, 4279, 8, 8}, {16690, 4287, 6, 8}, {16697, 4295, 18, 10},
-    {16716, 4295, 21, 10}, {16738, 4305, 25, 10}, {16764, 4315, 24, 10}, {16789, 4325, 26, 10}, {16816, 4325, 34, 10},
-    {16851, 4335, 4, 9}, {16856, 4335, 13, 9}, {16896, 4344, 26, 10}, {16923, 4354, 27, 10}, {16951, 4364, 21, 10},
-    {16973, 4374, 12, 9}, {16986, 4383, 11, 9}, {16998, 4392, 11, 9}, {17010, 4401, 12, 9}, {17023, 4410, 14, 9},
-    {17038, 4419, 10, 9}, {17049, 4428, 10, 9}, {17060, 4437, 9, 9}, {17070, 4446, 8, 9}, {17079, 4455, 11, 9},
-    {17091, 4464, 15, 9}, {17107, 4473, 14, 9}, {17122, 4482, 9, 9}, {17132, 4491, 17, 9}, {17150, 4500, 13, 9},
-    {17164, 4509, 8, 9}, {17173, 4518, 12, 9}, {17186, 4527, 10, 9}, {17197, 4536, 10, 9}, {17208, 4545, 10, 10},
-    {17219, 4555, 7, 10}, {17227, 4565, 22, 10}, {17250, 4575, 16, 10}, {17267, 4585, 14, 10}, {17282, 4595, 12, 10},
-    {17295, 4608, 16, 10}, {17312, 4618, 8, 10}, {17321, 4628, 14, 10}, {17336, 4638, 20, 10}, {17357, 4648, 11, 10},
-    {17369, 4658, 19, 10}, {17389, 4668, 13, 10}, {17408, 4678, 15, 10}, {17424, 4688, 11, 10}, {17436, 4698, 8, 9},
-    {17445, 4707, 9, 9}, {17455, 4716, 8, 9}, {17464, 4725, 10, 9}, {17475, 4734, 18, 9}, {17494, 4743, 11, 9},
-    {17506, 4752, 8, 9}, {17515, 4761, 11, 9}, {17527, 4770, 10, 9}, {17538, 4779, 9, 9}, {17548, 4788, 15, 9},
-    {17564, 4797, 10, 9}, {17575, 4806, 9, 9}, {17585, 4815, 7, 9}, {17593, 4824, 8, 9}, {17602, 4833, 15, 9},
-    {17618, 4842, 24, 9}, {17643, 4851, 10, 9}, {17654, 4860, 10, 9}, {17665, 4869, 16, 9}, {17682, 4878, 9, 9},
-    {17692, 4887, 9, 9}, {17702, 4896, 12, 9}, {17715, 4905, 16, 9}, {17732, 4914, 11, 9}, {17744, 4923, 10, 9},
-    {17755, 4932, 13, 9}, {17769, 4941, 16, 9}, {17786, 4950, 10, 9}, {17797, 4959, 14, 9}, {17812, 4968, 23, 9},
-    {17836, 4977, 14, 10}, {17851, 4987, 12, 10}, {17864, 4997, 9, 10}, {17874, 5007, 14, 10}, {17889, 5017, 11, 10},
-    {17901, 5027, 9, 10}, {17920, 5037, 12, 10}, {17933, 5047, 10, 10}, {17944, 5057, 7, 10}, {17952, 5067, 14, 10},
-    {17967, 5077, 10, 10}, {17978, 5087, 14, 10}, {17993, 5097, 8, 10}, {18002, 5107, 14, 10}, {18017, 5120, 7, 10},
-    {18025, 5130, 25, 10}, {18051, 5140, 15, 10}, {18067, 5150, 22, 10}, {18090, 5160, 26, 10}, {18117, 5170, 13, 10},
-    {18131, 5180, 11, 10}, {18143, 5190, 9, 10}, {18153, 5200, 21, 10}, {18175, 5210, 27, 10}, {18203, 5220, 15, 10},
-    {18219, 5230, 24, 10}, {18244, 5240, 25, 10}, {18270, 5250, 8, 10}, {18279, 5260, 10, 10}, {18290, 5270, 34, 10},
-    {18325, 5280, 26, 10}, {18352, 5290, 10, 10}, {18363, 5300, 16, 10}, {18380, 5310, 26, 10}, {18407, 5310, 11, 10},
-    {18432, 5320, 17, 10}, {18450, 5330, 29, 10}, {18480, 5340, 11, 10}, {18492, 5350, 9, 10}, {18502, 5360, 9, 10},
-    {18512, 5370, 14, 10}, {18527, 5380, 16, 10}, {18544, 5390, 17, 10}, {18562, 5400, 11, 10}, {18574, 5410, 9, 10},
-    {18584, 5420, 7, 10}, {18592, 5430, 12, 10}, {18605, 5440, 3, 10}, {18609, 5450, 9, 10}, {18619, 5460, 20, 10},
-    {18640, 5470, 15, 10}, {18656, 5480, 14, 10}, {18671, 5490, 33, 10}, {18705, 5500, 18, 10}, {18724, 5500, 26, 10},
-    {18751, 5510, 17, 10}, {18769, 5510, 25, 10}, {18795, 5520, 26, 10}, {18822, 5530, 20, 10}, {18843, 5540, 22, 10},
-    {18866, 5550, 21, 10}, {18888, 5560, 22, 10}, {18911, 5570, 11, 10}, {18923, 5580, 6, 10}, {18930, 5590, 9, 10},
-    {18944, 5600, 14, 10}, {18959, 5610, 19, 10}, {18979, 5632, 28, 10}, {19008, 5642, 17, 10}, {19026, 5652, 26, 10},
-    {19053, 5662, 13, 10}, {19067, 5672, 15, 10}, {19083, 5682, 11, 10}, {19095, 5692, 25, 10}, {19121, 5702, 17, 10},
-    {19139, 5712, 17, 10}, {19157, 5722, 18, 10}, {19176, 5732, 19, 10}, {19196, 5742, 14, 10}, {19211, 5752, 27, 10},
-    {19239, 5762, 29, 10}, {19269, 5772, 24, 10}, {19294, 5782, 21, 10}, {19316, 5792, 21, 10}, {19338, 5802, 21, 10},
-    {19360, 5812, 16, 10}, {19377, 5822, 25, 10}, {19403, 5832, 17, 10}, {19456, 5842, 32, 10}, {19489, 5852, 29, 10},
-    {19519, 5862, 18, 10}, {19538, 5872, 21, 10}, {19560, 5882, 27, 10}, {19588, 5892, 22, 10}, {19611, 5902, 29, 10},
-    {19641, 5912, 23, 10}, {19665, 5922, 21, 10}, {19687, 5932, 34, 10}, {19722, 5942, 36, 10}, {19759, 5952, 18, 10},
-    {19778, 5962, 26, 10}, {19805, 5972, 26, 10}, {19832, 5982, 21, 10}, {19854, 5992, 24, 10}, {19879, 6002, 17, 10},
-    {19897, 6012, 18, 10}, {19916, 6022, 34, 10}, {19968, 6022, 27, 10}, {19996, 6032, 9, 10}, {20006, 6042, 11, 10},
-    {20018, 6052, 13, 10}, {20032, 6062, 29, 10}, {20062, 6072, 39, 10}, {20102, 6082, 15, 10}, {20118, 6092, 17, 10},
-    {20136, 6102, 14, 10}, {20151, 6112, 35, 10}, {20187, 6122, 15, 10}, {20203, 6144, 17, 10}, {20221, 6154, 10, 10},
-    {20232, 6164, 13, 9}, {20246, 6173, 17, 9}, {20264, 6182, 5, 9}, {20270, 6191, 4, 9}, {20275, 6200, 7, 9},
-    {20283, 6209, 6, 9}, {20290, 6218, 10, 9}, {20301, 6227, 4, 9}, {20306, 6236, 13, 9}, {20320, 6245, 6, 9},
-    {20327, 6254, 9, 9}, {20337, 6263, 24, 9}, {20362, 6272, 6, 9}, {20369, 6281, 22, 9}, {20392, 6290, 20, 10},
-    {20413, 6300, 22, 10}, {20436, 6310, 20, 10}, {20480, 6320, 26, 10}, {20507, 6330, 7, 11}, {20515, 6341, 11, 12},
-    {20527, 6353, 16, 12}, {20544, 6365, 18, 12}, {20563, 6377, 3, 1}, {20567, 6377, 3, 1}, {20571, 6377, 23, 1},
-    {20595, 6378, 17, 5}, {20613, 6383, 3, 2}, {20617, 6383, 3, 2}, {20621, 6385, 8, 3}, {20630, 6385, 4, 3},
-    {20635, 6385, 4, 3}, {20640, 6388, 9, 4}, {20650, 6388, 9, 4}, {20660, 6392, 9, 7}, {20670, 6399, 9, 7},
-    {20680, 6406, 5, 7}, {20686, 6413, 13, 7}, {20700, 6413, 17, 7}, {20718, 6420, 10, 7}, {20729, 6427, 16, 7},
-    {20746, 6434, 9, 7}, {20756, 6441, 9, 7}, {20766, 6448, 13, 7}, {20780, 6455, 14, 7}, {20795, 6462, 12, 7},
-    {20808, 6469, 10, 7}, {20819, 6476, 9, 7}, {20829, 6483, 17, 7}, {20847, 6490, 17, 7}, {20865, 6497, 13, 7},
-    {20879, 6504, 17, 7}, {20897, 6511, 16, 7}, {20914, 6518, 12, 7}, {20927, 6525, 12, 7}, {20940, 6532, 15, 7},
-    {20956, 6539, 15, 7}, {20972, 6546, 10, 7}, {20992, 6553, 13, 7}, {21006, 6560, 8, 7}, {21015, 6567, 10, 7},
-    {21026, 6574, 11, 7}, {21038, 6581, 12, 7}, {21051, 6588, 13, 7}, {21065, 6595, 10, 7}, {21076, 6602, 9, 7},
-    {21086, 6609, 10, 7}, {21097, 6616, 6, 7}, {21104, 6623, 6, 7}, {21111, 6630, 9, 7}, {21121, 6637, 11, 7},
-    {21133, 6644, 6, 7}, {21140, 6656, 9, 7}, {21150, 6663, 13, 7}, {21164, 6670, 14, 7}, {21179, 6677, 10, 5},
-    {21190, 6682, 13, 5}, {21204, 6687, 16, 5}, {21221, 6692, 19, 5}, {21241, 6697, 21, 6}, {21263, 6703, 22, 6},
-    {21286, 6709, 29, 5}, {21316, 6714, 14, 5}, {21331, 6719, 8, 5}, {21340, 6724, 24, 5}, {21365, 6729, 4, 4},
-    {21370, 6729, 10, 4}, {21381, 6733, 5, 5}, {21387, 6738, 6, 6}, {21394, 6744, 8, 7}, {21403, 6751, 11, 7},
-    {21415, 6758, 9, 7}, {21425, 6765, 10, 7}, {21436, 6772, 7, 7}, {21444, 6779, 11, 7}, {21456, 6786, 11, 7},
-    {21468, 6793, 15, 7}, {21484, 6800, 10, 7}, {21504, 6807, 10, 8}, {21515, 6815, 10, 9}, {21526, 6824, 7, 9},
-    {21534, 6833, 10, 9}, {21545, 6842, 11, 9}, {21557, 6851, 10, 6}, {21568, 6857, 8, 7}, {21577, 6864, 7, 7},
-    {21585, 6871, 7, 8}, {21593, 6879, 7, 9}, {21601, 6888, 7, 9}, {21609, 6897, 6, 9}, {21616, 6906, 5, 9},
-    {21622, 6915, 7, 9}, {21630, 6924, 13, 9}, {21644, 6933, 13, 9}, {21658, 6942, 12, 9}, {21671, 6951, 12, 9},
-    {21684, 6960, 10, 9}, {21695, 6969, 13, 9}, {21709, 6978, 14, 9}, {21724, 6987, 12, 9}, {21737, 6996, 10, 9},
-    {21748, 7005, 17, 9}, {21766, 7014, 11, 9}, {21778, 7023, 14, 9}, {21793, 7032, 15, 9}, {21809, 7041, 13, 9},
-    {21823, 7050, 11, 9}, {21835, 7059, 9, 9}, {21845, 7068, 10, 9}, {21856, 7077, 2, 6}, {21859, 7083, 7, 7},
-    {21867, 7090, 7, 8}, {21875, 7098, 9, 9}, {21885, 7107, 13, 9}, {21899, 7116, 12, 9}, {21912, 7125, 2, 6},
-    {21915, 7131, 12, 7}, {21928, 7138, 12, 7}, {21941, 7145, 12, 7}, {21954, 7152, 13, 7}, {21968, 7168, 14, 7},
-    {21983, 7175, 15, 7}, {22016, 7182, 17, 7}, {22034, 7189, 12, 7}, {22047, 7196, 12, 7}, {22060, 7203, 13, 7},
-    {22074, 7210, 13, 7}, {22088, 7217, 13, 7}, {22102, 7224, 14, 7}, {22117, 7231, 12, 7}, {22130, 7238, 10, 7},
-    {22141, 7245, 12, 7}, {22154, 7252, 9, 7}, {22164, 7259, 11, 7}, {22176, 7266, 13, 7}, {22190, 7273, 11, 7},
-    {22202, 7280, 11, 8}, {22214, 7288, 11, 9}, {22226, 7297, 14, 9}, {22241, 7306, 14, 9}, {22256, 7315, 16, 9},
-    {22273, 7324, 19, 9}, {22293, 7333, 12, 7}, {22306, 7340, 12, 8}, {22319, 7348, 11, 9}, {22331, 7357, 14, 9},
-    {22346, 7366, 14, 9}, {22361, 7375, 14, 9}, {22376, 7384, 14, 9}, {22391, 7393, 14, 9}, {22406, 7402, 14, 9},
-    {22421, 7411, 11, 9}, {22433, 7420, 12, 9}, {22446, 7429, 10, 9}, {22457, 7438, 11, 9}, {22469, 7447, 14, 9},
-    {22484, 7456, 11, 9}, {22496, 7465, 17, 7}, {22528, 7472, 17, 8}, {22546, 7480, 19, 9}, {22566, 7489, 23, 9},
-    {22590, 7498, 22, 9}, {22613, 7507, 16, 9}, {22630, 7516, 17, 7}, {22648, 7523, 9, 7}, {22658, 7530, 15, 8},
-    {22674, 7538, 14, 8}, {22689, 7546, 14, 9}, {22704, 7555, 13, 10}, {22718, 7565, 13, 10}, {22732, 7575, 15, 10},
-    {22748, 7585, 16, 10}, {22765, 7595, 16, 10}, {22782, 7605, 13, 10}, {22796, 7615, 14, 10}, {22811, 7625, 12, 10},
-    {22824, 7635, 13, 10}, {22838, 7645, 18, 10}, {22857, 7655, 16, 10}, {22874, 7665, 16, 10}, {22891, 7680, 16, 10},
-    {22908, 7690, 16, 10}, {22925, 7700, 16, 10}, {22942, 7710, 17, 8}, {22960, 7718, 16, 8}, {22977, 7726, 16, 9},
-    {22994, 7735, 15, 10}, {23010, 7745, 15, 10}, {23040, 7755, 14, 10}, {23055, 7765, 18, 10}, {23074, 7775, 18, 10},
-    {23093, 7785, 15, 10}, {23109, 7795, 16, 10}, {23126, 7805, 14, 10}, {23141, 7815, 15, 10}, {23157, 7825, 20, 10},
-    {23178, 7835, 18, 10}, {23197, 7845, 18, 10}, {23216, 7855, 18, 10}, {23235, 7865, 18, 10}, {23254, 7875, 18, 10},
-    {23273, 7885, 17, 10}, {23291, 7895, 19, 8}, {23311, 7903, 18, 8}, {23330, 7911, 18, 9}, {23349, 7920, 21, 10},
-    {23371, 7930, 17, 10}, {23389, 7940, 19, 10}, {23409, 7950, 19, 10}, {23429, 7960, 24, 10}, {23454, 7970, 20, 10},
-    {23475, 7980, 20, 10}, {23496, 7990, 17, 10}, {23514, 8000, 18, 10}, {23552, 8010, 16, 10}, {23569, 8020, 22, 10},
-    {23592, 8030, 20, 10}, {23613, 8040, 20, 10}, {23634, 8050, 20, 10}, {23655, 8060, 20, 10}, {23676, 8070, 20, 10},
-    {23697, 8080, 19, 10}, {23717, 8090, 21, 8}, {23739, 8098, 16, 7}, {23756, 8105, 21, 7}, {23778, 8112, 28, 7},
-    {23807, 8119, 18, 7}, {23826, 8126, 18, 8}, {23845, 8134, 20, 9}, {23866, 8143, 25, 9}, {23892, 8152, 25, 9},
-    {23918, 8161, 27, 9}, {23946, 8170, 28, 7}, {23975, 8177, 18, 7}, {23994, 8192, 18, 8}, {24013, 8200, 20, 9},
-    {24034, 8209, 25, 9}, {24064, 8218, 23, 9}, {24088, 8227, 25, 9}, {24114, 8236, 26, 9}, {24141, 8245, 27, 9},
-    {24169, 8254, 23, 9}, {24193, 8263, 14, 7}, {24208, 8270, 18, 8}, {24227, 8278, 18, 9}, {24246, 8287, 22, 10},
-    {24269, 8297, 23, 10}, {24293, 8307, 25, 10}, {24319, 8317, 21, 10}, {24341, 8327, 23, 10}, {24365, 8337, 24, 10},
-    {24390, 8347, 23, 10}, {24414, 8357, 25, 10}, {24440, 8367, 28, 10}, {24469, 8377, 28, 10}, {24498, 8387, 28, 10},
-    {24527, 8397, 30, 10}, {24576, 8407, 23, 10}, {24600, 8417, 21, 10}, {24622, 8427, 23, 10}, {24646, 8437, 23, 10},
-    {24670, 8447, 23, 10}, {24694, 8457, 25, 10}, {24720, 8467, 24, 10}, {24745, 8477, 26, 10}, {24772, 8487, 24, 10},
-    {24797, 8497, 29, 10}, {24827, 8507, 31, 10}, {24859, 8517, 24, 10}, {24884, 8527, 25, 10}, {24910, 8537, 23, 10},
-    {24934, 8547, 25, 10}, {24960, 8557, 27, 10}, {24988, 8567, 25, 10}, {25014, 8577, 27, 10}, {25042, 8587, 22, 10},
-    {25088, 8597, 24, 10}, {25113, 8607, 24, 10}, {25138, 8617, 26, 10}, {25165, 8627, 26, 10}, {25192, 8637, 28, 10},
-    {25221, 8647, 25, 10}, {25247, 8657, 27, 10}, {25275, 8667, 27, 10}, {25303, 8677, 29, 10}, {25333, 8687, 24, 10},
-    {25358, 8704, 26, 10}, {25385, 8714, 25, 10}, {25411, 8724, 27, 10}, {25439, 8734, 30, 10}, {25470, 8744, 24, 10},
-    {25495, 8754, 24, 8}, {25520, 8762, 14, 8}, {25535, 8770, 14, 9}, {25550, 8779, 18, 10}, {25569, 8789, 16, 10},
-    {25600, 8799, 19, 10}, {25620, 8809, 21, 10}, {25642, 8819, 17, 10}, {25660, 8829, 19, 10}, {25680, 8839, 20, 10},
-    {25701, 8849, 19, 10}, {25721, 8859, 21, 10}, {25743, 8869, 24, 10}, {25768, 8879, 24, 10}, {25793, 8889, 24, 10},
-    {25818, 8899, 26, 10}, {25845, 8909, 19, 10}, {25865, 8919, 17, 10}, {25883, 8929, 19, 10}, {25903, 8939, 19, 10},
-    {25923, 8949, 19, 10}, {25943, 8959, 21, 10}, {25965, 8969, 20, 10}, {25986, 8979, 22, 10}, {26009, 8989, 25, 10},
-    {26035, 8999, 27, 10}, {26063, 9009, 20, 10}, {26084, 9019, 21, 10}, {26112, 9029, 19, 10}, {26132, 9039, 21, 10},
-    {26154, 9049, 23, 10}, {26178, 9059, 21, 10}, {26200, 9069, 23, 10}, {26224, 9079, 18, 10}, {26243, 9089, 20, 10},
-    {26264, 9099, 20, 10}, {26285, 9109, 22, 10}, {26308, 9119, 22, 10}, {26331, 9129, 24, 10}, {26356, 9139, 21, 10},
-    {26378, 9149, 23, 10}, {26402, 9159, 23, 10}, {26426, 9169, 25, 10}, {26452, 9179, 20, 10}, {26473, 9189, 22, 10},
-    {26496, 9199, 21, 10}, {26518, 9216, 23, 10}, {26542, 9226, 26, 10}, {26569, 9236, 20, 10}, {26590, 9246, 20, 7},
-    {26624, 9253, 20, 8}, {26645, 9261, 22, 9}, {26668, 9270, 19, 9}, {26688, 9279, 21, 9}, {26710, 9288, 21, 9},
-    {26732, 9297, 21, 9}, {26754, 9306, 25, 9}, {26780, 9315, 29, 9}, {26810, 9324, 35, 9}, {26846, 9333, 31, 9},
-    {26878, 9342, 17, 7}, {26896, 9349, 14, 7}, {26911, 9356, 14, 8}, {26926, 9364, 17, 9}, {26944, 9373, 13, 9},
-    {26958, 9382, 16, 9}, {26975, 9391, 13, 9}, {26989, 9400, 15, 9}, {27005, 9409, 15, 9}, {27021, 9418, 15, 9},
-    {27037, 9427, 16, 9}, {27054, 9436, 20, 9}, {27075, 9445, 18, 9}, {27094, 9454, 20, 9}, {27136, 9463, 20, 7},
-    {27157, 9470, 20, 8}, {27178, 9478, 22, 9}, {27201, 9487, 29, 9}, {27231, 9496, 25, 9}, {27257, 9505, 26, 9},
-    {27284, 9514, 26, 9}, {27311, 9523, 19, 9}, {27331, 9532, 20, 9}, {27352, 9541, 24, 9}, {27377, 9550, 23, 7},
-    {27401, 9557, 23, 8}, {27425, 9565, 25, 9}, {27451, 9574, 27, 9}, {27479, 9583, 19, 9}, {27499, 9592, 28, 9},
-    {27528, 9601, 27, 9}, {27556, 9610, 19, 9}, {27576, 9619, 19, 9}, {27596, 9628, 35, 9}, {27648, 9637, 19, 9},
-    {27668, 9646, 19, 9}, {27688, 9655, 19, 9}, {27708, 9664, 19, 9}, {27728, 9673, 19, 9}, {27748, 9682, 20, 7},
-    {27769, 9689, 20, 8}, {27790, 9697, 26, 9}, {27817, 9706, 22, 9}, {27840, 9715, 22, 9}, {27863, 9728, 23, 9},
-    {27887, 9737, 25, 9}, {27913, 9746, 24, 7}, {27938, 9753, 21, 7}, {27960, 9760, 21, 8}, {27982, 9768, 23, 9},
-    {28006, 9777, 27, 9}, {28034, 9786, 27, 9}, {28062, 9795, 27, 9}, {28090, 9804, 27, 9}, {28118, 9813, 31, 9},
-    {28160, 9822, 23, 9}, {28184, 9831, 29, 9}, {28214, 9840, 30, 9}, {28245, 9849, 27, 9}, {28273, 9858, 31, 9},
-    {28305, 9867, 25, 9}, {28331, 9876, 4, 6}, {28336, 9882, 10, 7}, {28347, 9889, 12, 7}, {28360, 9896, 18, 7},
-    {28379, 9903, 15, 7}, {28395, 9910, 15, 7}, {28411, 9917, 16, 7}, {28428, 9924, 15, 7}, {28444, 9931, 11, 7},
-    {28456, 9938, 14, 7}, {28471, 9945, 16, 7}, {28488, 9952, 19, 7}, {28508, 9959, 15, 7}, {28524, 9966, 18, 7},
-    {28543, 9973, 11, 7}, {28555, 9980, 13, 7}, {28569, 9987, 19, 7}, {28589, 9994, 16, 7}, {28606, 10001, 16, 7},
-    {28623, 10008, 17, 7}, {28641, 10015, 16, 7}, {28672, 10022, 12, 7}, {28685, 10029, 15, 7}, {28701, 10036, 17, 7},
-    {28719, 10043, 20, 7}, {28740, 10050, 16, 7}, {28757, 10057, 19, 7}, {28777, 10064, 14, 7}, {28792, 10071, 14, 8},
-    {28807, 10079, 18, 9}, {28826, 10088, 15, 9}, {28842, 10097, 17, 9}, {28860, 10106, 16, 9}, {28877, 10115, 18, 9},
-    {28896, 10124, 17, 7}, {28914, 10131, 17, 8}, {28932, 10139, 21, 9}, {28954, 10148, 16, 9}, {28971, 10157, 18, 9},
-    {28990, 10166, 19, 9}, {29010, 10175, 3, 6}, {29014, 10181, 15, 7}, {29030, 10188, 9, 7}, {29040, 10195, 9, 7},
-    {29050, 10202, 10, 7}, {29061, 10209, 14, 7}, {29076, 10216, 15, 7}, {29092, 10223, 15, 7}, {29108, 10230, 14, 7},
-    {29123, 10240, 12, 7}, {29136, 10247, 9, 7}, {29146, 10254, 10, 7}, {29157, 10261, 14, 7}, {29184, 10268, 12, 7},
-    {29197, 10275, 12, 8}, {29210, 10283, 12, 9}, {29223, 10292, 19, 9}, {29243, 10301, 16, 9}, {29260, 10310, 17, 9},
-    {29278, 10319, 14, 9}, {29293, 10328, 9, 7}, {29303, 10335, 10, 7}, {29314, 10342, 11, 7}, {29326, 10349, 12, 7},
-    {29339, 10356, 18, 7}, {29358, 10363, 18, 8}, {29377, 10371, 29, 9}, {29407, 10380, 25, 9}, {29433, 10389, 22, 9},
-    {29456, 10398, 27, 9}, {29484, 10407, 23, 9}, {29508, 10416, 20, 9}, {29529, 10425, 18, 9}, {29548, 10434, 20, 9},
-    {29569, 10443, 16, 7}, {29586, 10450, 16, 8}, {29603, 10458, 27, 9}, {29631, 10467, 23, 9}, {29655, 10476, 20, 9},
-    {29696, 10485, 18, 9}, {29715, 10494, 3, 6}, {29719, 10500, 14, 7}, {29734, 10507, 10, 7}, {29745, 10514, 11, 7},
-    {29757, 10521, 15, 7}, {29773, 10528, 8, 7}, {29782, 10535, 8, 8}, {29791, 10543, 15, 9}, {29807, 10552, 12, 9},
-    {29820, 10561, 16, 7}, {29837, 10568, 16, 8}, {29854, 10576, 27, 9}, {29882, 10585, 23, 9}, {29906, 10594, 20, 9},
-    {29927, 10603, 28, 9}, {29956, 10612, 24, 9}, {29981, 10621, 21, 9}, {30003, 10630, 19, 9}, {30023, 10639, 18, 9},
-    {30042, 10648, 16, 7}, {30059, 10655, 17, 7}, {30077, 10662, 3, 6}, {30081, 10668, 9, 7}, {30091, 10675, 11, 7},
-    {30103, 10682, 10, 7}, {30114, 10689, 12, 7}, {30127, 10696, 13, 7}, {30141, 10703, 13, 8}, {30155, 10711, 13, 9},
-    {30169, 10720, 12, 9}, {30182, 10729, 10, 9}, {30208, 10738, 14, 9}, {30223, 10752, 14, 9}, {30238, 10761, 15, 9},
-    {30254, 10770, 15, 9}, {30270, 10779, 17, 9}, {30288, 10788, 18, 9}, {30307, 10797, 16, 9}, {30324, 10806, 18, 9},
-    {30343, 10815, 21, 9}, {30365, 10824, 20, 9}, {30386, 10833, 12, 9}, {30399, 10842, 20, 9}, {30420, 10851, 5, 7},
-    {30426, 10858, 12, 6}, {30439, 10864, 4, 7}, {30444, 10871, 14, 8}, {30459, 10879, 14, 9}, {30474, 10888, 14, 10},
-    {30489, 10898, 24, 10}, {30514, 10908, 18, 10}, {30533, 10918, 30, 10}, {30564, 10928, 32, 10},
-    {30597, 10938, 22, 10}, {30620, 10948, 30, 10}, {30651, 10958, 23, 10}, {30675, 10968, 28, 10},
-    {30720, 10978, 34, 10}, {30755, 10988, 27, 10}, {30783, 10998, 22, 10}, {30806, 11008, 33, 10},
-    {30840, 11018, 21, 10}, {30862, 11028, 21, 10}, {30884, 11038, 21, 10}, {30906, 11048, 27, 10},
-    {30934, 11058, 26, 10}, {30961, 11068, 13, 8}, {30975, 11076, 13, 9}, {30989, 11085, 13, 10},
-    {31003, 11095, 19, 10}, {31023, 11105, 9, 8}, {31033, 11113, 11, 9}, {31045, 11122, 16, 9}, {31062, 11131, 10, 8},
-    {31073, 11139, 18, 9}, {31092, 11148, 22, 9}, {31115, 11157, 16, 8}, {31132, 11165, 16, 9}, {31149, 11174, 29, 10},
-    {31179, 11184, 27, 10}, {31232, 11194, 29, 10}, {31262, 11204, 14, 8}, {31277, 11212, 14, 9},
-    {31292, 11221, 18, 10}, {31311, 11231, 17, 10}, {31329, 11241, 17, 10}, {31347, 11251, 18, 10},
-    {31366, 11264, 19, 10}, {31386, 11274, 20, 10}, {31407, 11284, 16, 8}, {31424, 11292, 16, 9},
-    {31441, 11301, 26, 10}, {31468, 11311, 20, 10}, {31489, 11321, 36, 10}, {31526, 11331, 24, 10},
-    {31551, 11341, 35, 10}, {31587, 11351, 23, 10}, {31611, 11361, 4, 6}, {31616, 11367, 10, 7}, {31627, 11374, 11, 7},
-    {31639, 11381, 17, 7}, {31657, 11388, 23, 7}, {31681, 11395, 22, 7}, {31704, 11402, 18, 7}, {31723, 11409, 13, 7},
-    {31744, 11416, 17, 7}, {31762, 11423, 15, 7}, {31778, 11430, 15, 7}, {31794, 11437, 13, 7}, {31808, 11444, 18, 7},
-    {31827, 11451, 18, 7}, {31846, 11458, 17, 7}, {31864, 11465, 14, 7}, {31879, 11472, 17, 7}, {31897, 11479, 18, 7},
-    {31916, 11486, 11, 7}, {31928, 11493, 14, 7}, {31943, 11500, 18, 7}, {31962, 11507, 16, 7}, {31979, 11514, 14, 7},
-    {31994, 11521, 18, 7}, {32013, 11528, 15, 7}, {32029, 11535, 18, 7}, {32048, 11542, 19, 7}, {32068, 11549, 12, 7},
-    {32081, 11556, 21, 7}, {32103, 11563, 15, 7}, {32119, 11570, 14, 7}, {32134, 11577, 11, 6}, {32146, 11583, 18, 7},
-    {32165, 11590, 7, 8}, {32173, 11598, 14, 8}, {32188, 11606, 9, 7}, {32198, 11613, 22, 8}, {32221, 11621, 17, 8},
-    {32239, 11629, 13, 8}, {32256, 11637, 18, 8}, {32275, 11645, 18, 9}, {32294, 11654, 13, 10}, {32308, 11664, 20, 10},
-    {32329, 11674, 20, 10}, {32350, 11684, 34, 10}, {32385, 11694, 32, 10}, {32418, 11704, 8, 7}, {32427, 11711, 29, 8},
-    {32457, 11719, 16, 8}, {32474, 11727, 31, 8}, {32506, 11735, 18, 8}, {32525, 11743, 22, 8}, {32548, 11751, 16, 8},
-    {32565, 11759, 16, 8}, {32582, 11776, 14, 8}, {32597, 11784, 17, 8}, {32615, 11792, 16, 8}, {32632, 11800, 20, 8},
-    {32653, 11808, 20, 8}, {32674, 11816, 23, 8}, {32698, 11824, 26, 8}, {32725, 11832, 17, 8}, {32743, 11840, 17, 9},
-    {32768, 11849, 12, 10}, {32781, 11859, 20, 10}, {32802, 11869, 17, 10}, {32820, 11879, 18, 10},
-    {32839, 11889, 20, 10}, {32860, 11899, 26, 10}, {32887, 11909, 26, 10}, {32914, 11919, 28, 10},
-    {32943, 11929, 26, 10}, {32970, 11939, 30, 10}, {33001, 11949, 22, 10}, {33024, 11959, 7, 7}, {33032, 11966, 7, 7},
-    {33040, 11973, 27, 8}, {33068, 11981, 16, 8}, {33085, 11989, 15, 8}, {33101, 11997, 15, 9}, {33117, 12006, 17, 10},
-    {33135, 12016, 14, 10}, {33150, 12026, 16, 10}, {33167, 12036, 16, 8}, {33184, 12044, 16, 9},
-    {33201, 12053, 11, 10}, {33213, 12063, 18, 10}, {33232, 12073, 19, 10}, {33252, 12083, 20, 10},
-    {33280, 12093, 21, 10}, {33302, 12103, 11, 7}, {33314, 12110, 16, 8}, {33331, 12118, 16, 9}, {33348, 12127, 18, 10},
-    {33367, 12137, 22, 10}, {33390, 12147, 24, 10}, {33415, 12157, 17, 10}, {33433, 12167, 10, 7},
-    {33444, 12174, 17, 8}, {33462, 12182, 9, 9}, {33472, 12191, 22, 10}, {33495, 12201, 14, 10}, {33510, 12211, 22, 10},
-    {33533, 12221, 13, 10}, {33547, 12231, 15, 10}, {33563, 12241, 7, 9}, {33571, 12250, 13, 10},
-    {33585, 12260, 13, 11}, {33599, 12271, 10, 12}, {33610, 12288, 20, 12}, {33631, 12300, 15, 10},
-    {33647, 12310, 15, 11}, {33663, 12321, 17, 12}, {33681, 12333, 14, 12}, {33696, 12345, 16, 12},
-    {33713, 12357, 17, 10}, {33731, 12367, 17, 11}, {33749, 12378, 19, 12}, {33792, 12390, 23, 12},
-    {33816, 12402, 18, 12}, {33835, 12414, 20, 10}, {33856, 12424, 20, 11}, {33877, 12435, 20, 12},
-    {33898, 12447, 26, 12}, {33925, 12459, 29, 12}, {33955, 12471, 29, 10}, {33985, 12481, 29, 11},
-    {34015, 12492, 29, 12}, {34045, 12504, 35, 12}, {34081, 12516, 38, 12}, {34120, 12528, 11, 9},
-    {34132, 12537, 23, 10}, {34156, 12547, 23, 11}, {34180, 12558, 25, 12}, {34206, 12570, 29, 12},
-    {34236, 12582, 31, 12}, {34268, 12594, 24, 12}, {34304, 12606, 25, 10}, {34330, 12616, 25, 11},
-    {34356, 12627, 27, 12}, {34384, 12639, 31, 12}, {34416, 12651, 37, 12}, {34454, 12663, 40, 12},
-    {34495, 12675, 26, 12}, {34522, 12687, 9, 9}, {34532, 12696, 19, 10}, {34552, 12706, 21, 10},
-    {34574, 12716, 21, 11}, {34596, 12727, 17, 12}, {34614, 12739, 14, 12}, {34629, 12751, 14, 12},
-    {34644, 12763, 27, 12}, {34672, 12775, 29, 12}, {34702, 12800, 15, 12}, {34718, 12812, 21, 12},
-    {34740, 12824, 20, 10}, {34761, 12834, 20, 11}, {34782, 12845, 19, 12}, {34816, 12857, 26, 12},
-    {34843, 12869, 29, 12}, {34873, 12881, 28, 12}, {34902, 12893, 24, 12}, {34927, 12905, 27, 10},
-    {34955, 12915, 18, 10}, {34974, 12925, 18, 11}, {34993, 12936, 9, 12}, {35003, 12948, 29, 12},
-    {35033, 12960, 25, 12}, {35059, 12972, 19, 12}, {35079, 12984, 32, 12}, {35112, 12996, 26, 12},
-    {35139, 13008, 35, 12}, {35175, 13020, 28, 10}, {35204, 13030, 28, 11}, {35233, 13041, 23, 12},
-    {35257, 13053, 24, 12}, {35282, 13065, 25, 12}, {35328, 13077, 31, 12}, {35360, 13089, 32, 12},
-    {35393, 13101, 33, 12}, {35427, 13113, 30, 10}, {35458, 13123, 30, 11}, {35489, 13134, 25, 12},
-    {35515, 13146, 26, 12}, {35542, 13158, 27, 12}, {35570, 13170, 29, 10}, {35600, 13180, 29, 11},
-    {35630, 13191, 19, 12}, {35650, 13203, 18, 12}, {35669, 13215, 19, 12}, {35689, 13227, 21, 12},
-    {35711, 13239, 25, 10}, {35737, 13249, 26, 10}, {35764, 13259, 13, 9}, {35778, 13268, 23, 10},
-    {35802, 13278, 23, 11}, {35840, 13289, 30, 12}, {35871, 13312, 34, 12}, {35906, 13324, 20, 12},
-    {35927, 13336, 27, 12}, {35955, 13348, 22, 10}, {35978, 13358, 22, 11}, {36001, 13369, 24, 12},
-    {36026, 13381, 25, 12}, {36052, 13393, 26, 12}, {36079, 13405, 4, 6}, {36084, 13411, 8, 7}, {36093, 13418, 14, 8},
-    {36108, 13426, 12, 8}, {36121, 13434, 25, 8}, {36147, 13442, 29, 8}, {36177, 13450, 16, 8}, {36194, 13458, 17, 8},
-    {36212, 13466, 20, 8}, {36233, 13474, 9, 7}, {36243, 13481, 14, 8}, {36258, 13489, 12, 8}, {36271, 13497, 14, 8},
-    {36286, 13505, 14, 9}, {36301, 13514, 14, 10}, {36316, 13524, 13, 10}, {36330, 13534, 14, 10},
-    {36352, 13544, 24, 10}, {36377, 13554, 13, 10}, {36391, 13564, 13, 10}, {36405, 13574, 27, 10},
-    {36433, 13584, 8, 7}, {36442, 13591, 13, 8}, {36456, 13599, 13, 8}, {36470, 13607, 13, 9}, {36484, 13616, 13, 10},
-    {36498, 13626, 12, 10}, {36511, 13636, 13, 10}, {36525, 13646, 10, 10}, {36536, 13656, 14, 10},
-    {36551, 13666, 14, 10}, {36566, 13676, 16, 8}, {36583, 13684, 16, 9}, {36600, 13693, 16, 10},
-    {36617, 13703, 15, 10}, {36633, 13713, 14, 8}, {36648, 13721, 14, 9}, {36663, 13730, 16, 10}, {36680, 13740, 14, 8},
-    {36695, 13748, 14, 9}, {36710, 13757, 15, 10}, {36726, 13767, 27, 10}, {36754, 13777, 18, 8}, {36773, 13785, 18, 9},
-    {36792, 13794, 19, 10}, {36812, 13804, 18, 10}, {36831, 13824, 22, 10}, {36864, 13834, 21, 10},
-    {36886, 13844, 16, 8}, {36903, 13852, 16, 9}, {36920, 13861, 16, 10}, {36937, 13871, 16, 10},
-    {36954, 13881, 13, 10}, {36968, 13891, 15, 10}, {36984, 13901, 18, 10}, {37003, 13911, 9, 8}, {37013, 13919, 9, 9},
-    {37023, 13928, 9, 10}, {37033, 13938, 14, 10}, {37048, 13948, 20, 10}, {37069, 13958, 8, 10},
-    {37078, 13968, 10, 10}, {37089, 13978, 12, 10}, {37102, 13988, 16, 10}, {37119, 13998, 22, 10},
-    {37142, 14008, 25, 10}, {37168, 14018, 9, 8}, {37178, 14026, 7, 7}, {37186, 14033, 11, 8}, {37198, 14041, 12, 8},
-    {37211, 14049, 12, 9}, {37224, 14058, 12, 10}, {37237, 14068, 11, 10}, {37249, 14078, 9, 10},
-    {37259, 14088, 11, 10}, {37271, 14098, 17, 10}, {37289, 14108, 11, 10}, {37301, 14118, 13, 10},
-    {37315, 14128, 11, 7}, {37327, 14135, 16, 8}, {37344, 14143, 16, 9}, {37376, 14152, 14, 10}, {37391, 14162, 14, 10},
-    {37406, 14172, 13, 7}, {37420, 14179, 23, 8}, {37444, 14187, 27, 8}, {37472, 14195, 18, 8}, {37491, 14203, 18, 9},
-    {37510, 14212, 18, 10}, {37529, 14222, 17, 10}, {37547, 14232, 15, 10}, {37563, 14242, 17, 10},
-    {37581, 14252, 17, 10}, {37599, 14262, 14, 7}, {37614, 14269, 22, 8}, {37637, 14277, 16, 8}, {37654, 14285, 15, 9},
-    {37670, 14294, 11, 8}, {37682, 14302, 13, 9}, {37696, 14311, 14, 9}, {37711, 14320, 13, 9}, {37725, 14336, 12, 9},
-    {37738, 14345, 16, 9}, {37755, 14354, 18, 9}, {37774, 14363, 5, 6}, {37780, 14369, 12, 7}, {37793, 14376, 8, 8},
-    {37802, 14384, 8, 9}, {37811, 14393, 6, 10}, {37818, 14403, 17, 10}, {37836, 14413, 17, 10}, {37854, 14423, 18, 10},
-    {37888, 14433, 18, 10}, {37907, 14443, 12, 10}, {37920, 14453, 15, 10}, {37936, 14463, 19, 10},
-    {37956, 14473, 19, 10}, {37976, 14483, 13, 10}, {37990, 14493, 16, 10}, {38007, 14503, 20, 10},
-    {38028, 14513, 20, 10}, {38049, 14523, 22, 10}, {38072, 14533, 11, 10}, {38084, 14543, 17, 10},
-    {38102, 14553, 18, 10}, {38121, 14563, 7, 10}, {38129, 14573, 26, 10}, {38156, 14583, 12, 8}, {38169, 14591, 12, 9},
-    {38182, 14600, 18, 10}, {38201, 14610, 17, 10}, {38219, 14620, 13, 10}, {38233, 14630, 11, 8},
-    {38245, 14638, 11, 9}, {38257, 14647, 8, 10}, {38266, 14657, 12, 10}, {38279, 14667, 10, 10},
-    {38290, 14677, 12, 10}, {38303, 14687, 10, 10}, {38314, 14697, 11, 10}, {38326, 14707, 17, 8},
-    {38344, 14715, 17, 9}, {38362, 14724, 19, 10}, {38400, 14734, 18, 10}, {38419, 14744, 16, 10},
-    {38436, 14754, 17, 8}, {38454, 14762, 17, 8}, {38472, 14770, 13, 7}, {38486, 14777, 8, 8}, {38495, 14785, 14, 9},
-    {38510, 14794, 18, 9}, {38529, 14803, 20, 9}, {38550, 14812, 13, 9}, {38564, 14821, 15, 9}, {38580, 14830, 16, 9},
-    {38597, 14848, 17, 9}, {38615, 14857, 11, 9}, {38627, 14866, 12, 9}, {38640, 14875, 25, 9}, {38666, 14884, 13, 9},
-    {38680, 14893, 17, 9}, {38698, 14902, 27, 9}, {38726, 14911, 28, 9}, {38755, 14920, 13, 8}, {38769, 14928, 12, 9},
-    {38782, 14937, 13, 9}, {38796, 14946, 13, 9}, {38810, 14955, 8, 6}, {38819, 14961, 15, 7}, {38835, 14968, 9, 6},
-    {38845, 14974, 16, 7}, {38862, 14981, 14, 8}, {38877, 14989, 16, 9}, {38912, 14998, 16, 10}, {38929, 15008, 16, 11},
-    {38946, 15019, 16, 11}, {38963, 15030, 21, 11}, {38985, 15041, 22, 11}, {39008, 15052, 16, 11},
-    {39025, 15063, 23, 11}, {39049, 15074, 15, 11}, {39065, 15085, 22, 11}, {39088, 15096, 22, 11},
-    {39111, 15107, 22, 11}, {39134, 15118, 20, 11}, {39155, 15129, 18, 11}, {39174, 15140, 20, 11},
-    {39195, 15151, 16, 11}, {39212, 15162, 18, 11}, {39231, 15173, 16, 11}, {39248, 15184, 18, 11},
-    {39267, 15195, 15, 11}, {39283, 15206, 13, 8}, {39297, 15214, 15, 9}, {39313, 15223, 15, 10},
-    {39329, 15233, 15, 11}, {39345, 15244, 15, 11}, {39361, 15255, 14, 11}, {39376, 15266, 19, 11},
-    {39396, 15277, 18, 11}, {39424, 15288, 17, 11}, {39442, 15299, 25, 11}, {39468, 15310, 21, 11},
-    {39490, 15321, 13, 8}, {39504, 15329, 17, 9}, {39522, 15338, 17, 10}, {39540, 15360, 18, 11}, {39559, 15371, 20, 9},
-    {39580, 15380, 20, 10}, {39601, 15390, 26, 11}, {39628, 15401, 25, 11}, {39654, 15412, 24, 9},
-    {39679, 15421, 24, 10}, {39704, 15431, 21, 11}, {39726, 15442, 13, 8}, {39740, 15450, 17, 9}, {39758, 15459, 14, 7},
-    {39773, 15466, 19, 8}, {39793, 15474, 15, 9}, {39809, 15483, 5, 6}, {39815, 15489, 16, 7}, {39832, 15496, 16, 8},
-    {39849, 15504, 15, 9}, {39865, 15513, 16, 9}, {39882, 15522, 11, 8}, {39894, 15530, 7, 9}, {39902, 15539, 9, 9},
-    {39912, 15548, 16, 9}, {39936, 15557, 11, 9}, {39948, 15566, 17, 9}, {39966, 15575, 11, 9}, {39978, 15584, 17, 9},
-    {39996, 15593, 18, 9}, {40015, 15602, 20, 9}, {40036, 15611, 25, 9}, {40062, 15620, 26, 9}, {40089, 15629, 28, 9},
-    {40118, 15638, 14, 9}, {40133, 15647, 16, 9}, {40150, 15656, 21, 9}, {40172, 15665, 22, 9}, {40195, 15674, 24, 9},
-    {40220, 15683, 20, 9}, {40241, 15692, 14, 9}, {40256, 15701, 20, 9}, {40277, 15710, 14, 9}, {40292, 15719, 20, 9},
-    {40313, 15728, 21, 9}, {40335, 15737, 14, 9}, {40350, 15746, 6, 6}, {40357, 15752, 17, 7}, {40375, 15759, 17, 8},
-    {40393, 15767, 16, 9}, {40410, 15776, 17, 9}, {40428, 15785, 12, 8}, {40448, 15793, 8, 9}, {40457, 15802, 12, 9},
-    {40470, 15811, 18, 9}, {40489, 15820, 16, 9}, {40506, 15829, 10, 9}, {40517, 15838, 6, 6}, {40524, 15844, 17, 7},
-    {40542, 15851, 17, 8}, {40560, 15859, 16, 9}, {40577, 15872, 17, 9}, {40595, 15881, 12, 8}, {40608, 15889, 8, 9},
-    {40617, 15898, 12, 9}, {40630, 15907, 10, 9}, {40641, 15916, 16, 9}, {40658, 15925, 18, 6}, {40677, 15931, 15, 7},
-    {40693, 15938, 15, 8}, {40709, 15946, 15, 9}, {40725, 15955, 16, 10}, {40742, 15965, 15, 6}, {40758, 15971, 19, 7},
-    {40778, 15978, 17, 8}, {40796, 15986, 17, 9}, {40814, 15995, 16, 10}, {40831, 16005, 17, 10},
-    {40849, 16015, 21, 10}, {40871, 16025, 17, 10}, {40889, 16035, 22, 10}, {40912, 16045, 24, 10},
-    {40960, 16055, 26, 10}, {40987, 16065, 27, 10}, {41015, 16075, 12, 4}, {41028, 16075, 12, 4}, {41041, 16079, 7, 4},
-    {41049, 16079, 7, 4}, {41057, 16083, 11, 5}, {41069, 16083, 11, 5}, {41081, 16088, 12, 11}, {41094, 16099, 16, 11},
-    {41111, 16110, 13, 11}, {41125, 16121, 12, 11}, {41138, 16132, 18, 11}, {41157, 16143, 11, 11},
-    {41169, 16154, 20, 11}, {41190, 16165, 7, 11}, {41198, 16176, 14, 11}, {41213, 16187, 8, 11},
-    {41222, 16198, 17, 11}, {41240, 16209, 13, 11}, {41254, 16220, 10, 11}, {41265, 16231, 20, 11},
-    {41286, 16242, 19, 11}, {41306, 16253, 20, 11}, {41327, 16264, 11, 11}, {41339, 16275, 14, 11},
-    {41354, 16286, 20, 11}, {41375, 16297, 12, 11}, {41388, 16308, 9, 11}, {41398, 16319, 9, 11},
-    {41408, 16330, 12, 11}, {41421, 16341, 15, 11}, {41437, 16352, 12, 11}, {41450, 16363, 16, 11},
-    {41472, 16384, 18, 11}, {41491, 16395, 10, 11}, {41502, 16406, 18, 11}, {41521, 16417, 13, 11},
-    {41535, 16428, 23, 11}, {41559, 16439, 13, 11}, {41573, 16450, 18, 11}, {41592, 16461, 13, 11},
-    {41606, 16472, 14, 11}, {41621, 16483, 20, 11}, {41642, 16494, 14, 11}, {41657, 16505, 10, 11},
-    {41668, 16516, 15, 11}, {41684, 16527, 8, 11}, {41693, 16538, 17, 11}, {41711, 16549, 11, 11},
-    {41723, 16560, 11, 11}, {41735, 16571, 10, 11}, {41746, 16582, 12, 11}, {41759, 16593, 10, 11},
-    {41770, 16604, 14, 11}, {41785, 16615, 14, 11}, {41800, 16626, 12, 11}, {41813, 16637, 21, 11},
-    {41835, 16648, 23, 11}, {41859, 16659, 9, 11}, {41869, 16670, 34, 11}, {41904, 16670, 35, 11},
-    {41940, 16681, 14, 12}, {41984, 16693, 32, 11}, {42017, 16704, 8, 11}, {42026, 16704, 8, 11},
-    {42035, 16704, 11, 11}, {42047, 16715, 18, 11}, {42066, 16726, 9, 7}, {42076, 16733, 23, 10},
-    {42100, 16743, 24, 10}, {42125, 16753, 22, 10}, {42148, 16763, 8, 10}, {42157, 16763, 27, 10},
-    {42185, 16763, 21, 10}, {42207, 16773, 23, 10}, {42231, 16783, 35, 10}, {42267, 16783, 9, 10},
-    {42277, 16783, 33, 10}, {42311, 16793, 35, 10}, {42347, 16793, 9, 10}, {42357, 16793, 33, 10},
-    {42391, 16803, 7, 10}, {42399, 16813, 6, 10}, {42406, 16823, 25, 10}, {42432, 16833, 9, 9}, {42442, 16833, 22, 9},
-    {42465, 16842, 26, 9}, {42496, 16851, 26, 10}, {42523, 16851, 9, 10}, {42533, 16851, 28, 10},
-    {42562, 16851, 36, 10}, {42599, 16861, 27, 10}, {42627, 16861, 23, 10}, {42651, 16861, 17, 10},
-    {42669, 16871, 25, 10}, {42695, 16871, 5, 10}, {42701, 16871, 29, 10}, {42731, 16881, 12, 10},
-    {42744, 16881, 5, 10}, {42750, 16881, 31, 10}, {42782, 16881, 22, 10}, {42805, 16881, 14, 10},
-    {42820, 16896, 18, 11}, {42839, 16896, 13, 11}, {42853, 16896, 12, 11}, {42866, 16907, 17, 10},
-    {42884, 16907, 36, 10}, {42921, 16917, 16, 10}, {42938, 16917, 37, 10}, {42976, 16927, 21, 10},
-    {43008, 16927, 41, 10}, {43050, 16937, 24, 10}, {43075, 16937, 46, 10}, {43122, 16947, 22, 10},
-    {43145, 16947, 16, 10}, {43162, 16957, 32, 10}, {43195, 16957, 23, 10}, {43219, 16967, 21, 10},
-    {43241, 16967, 12, 10}, {43254, 16977, 25, 10}, {43280, 16977, 16, 10}, {43297, 16987, 25, 10},
-    {43323, 16987, 16, 10}, {43340, 16997, 25, 10}, {43366, 16997, 19, 10}, {43386, 17007, 21, 10},
-    {43408, 17007, 15, 10}, {43424, 17017, 9, 10}, {43434, 17017, 14, 10}, {43449, 17017, 25, 10},
-    {43475, 17027, 14, 10}, {43490, 17027, 17, 10}, {43520, 17037, 20, 10}, {43541, 17037, 27, 10},
-    {43569, 17037, 14, 10}, {43584, 17047, 28, 10}, {43613, 17057, 28, 10}, {43642, 17057, 24, 10},
-    {43667, 17067, 25, 9}, {43693, 17076, 32, 10}, {43726, 17086, 29, 10}, {43756, 17096, 16, 10}, {43773, 17106, 7, 9},
-    {43781, 17106, 18, 9}, {43800, 17106, 36, 9}, {43837, 17115, 11, 9}, {43849, 17115, 23, 9}, {43873, 17124, 33, 9},
-    {43907, 17133, 27, 9}, {43935, 17142, 31, 9}, {43967, 17142, 25, 9}, {43993, 17151, 22, 10}, {44032, 17151, 25, 10},
-    {44058, 17151, 16, 10}, {44075, 17161, 24, 10}, {44100, 17161, 16, 10}, {44117, 17161, 25, 10},
-    {44143, 17161, 16, 10}, {44160, 17161, 16, 10}, {44177, 17161, 15, 10}, {44193, 17171, 23, 10},
-    {44217, 17171, 5, 10}, {44223, 17171, 29, 10}, {44253, 17171, 16, 10}, {44270, 17171, 14, 10},
-    {44285, 17171, 19, 10}, {44305, 17171, 3, 10}, {44309, 17181, 19, 9}, {44329, 17190, 24, 9}, {44354, 17190, 10, 9},
-    {44365, 17199, 32, 9}, {44398, 17199, 28, 9}, {44427, 17208, 22, 9}, {44450, 17208, 23, 9}, {44474, 17217, 22, 9},
-    {44497, 17217, 16, 9}, {44514, 17226, 20, 9}, {44544, 17226, 20, 9}, {44565, 17226, 42, 9}, {44608, 17235, 27, 9},
-    {44636, 17235, 18, 9}, {44655, 17244, 26, 9}, {44682, 17244, 13, 9}, {44696, 17244, 30, 9}, {44727, 17244, 32, 9},
-    {44760, 17244, 20, 9}, {44781, 17244, 21, 9}, {44803, 17253, 25, 9}, {44829, 17262, 12, 9}, {44842, 17271, 31, 9},
-    {44874, 17271, 15, 9}, {44890, 17271, 40, 9}, {44931, 17271, 20, 9}, {44952, 17271, 30, 9}, {44983, 17280, 33, 9},
-    {45017, 17280, 27, 9}, {45056, 17289, 36, 9}, {45093, 17289, 30, 9}, {45124, 17298, 23, 9}, {45148, 17298, 12, 9},
-    {45161, 17307, 18, 9}, {45180, 17307, 23, 9}, {45204, 17316, 31, 9}, {45236, 17316, 32, 9}, {45269, 17325, 28, 9},
-    {45298, 17325, 29, 9}, {45328, 17334, 22, 9}, {45351, 17343, 26, 9}, {45378, 17343, 35, 9}, {45414, 17352, 25, 9},
-    {45440, 17352, 18, 9}, {45459, 17361, 24, 9}, {45484, 17361, 21, 9}, {45506, 17370, 29, 9}, {45536, 17370, 16, 9},
-    {45568, 17379, 28, 9}, {45597, 17388, 22, 9}, {45620, 17408, 26, 9}, {45647, 17408, 15, 9}, {45663, 17408, 27, 9},
-    {45691, 17417, 20, 10}, {45712, 17417, 15, 10}, {45728, 17417, 27, 10}, {45756, 17427, 29, 10},
-    {45786, 17437, 13, 11}, {45800, 17437, 24, 11}, {45825, 17437, 19, 11}, {45845, 17437, 13, 11},
-    {45859, 17437, 39, 11}, {45899, 17448, 14, 11}, {45914, 17448, 31, 11}, {45946, 17448, 30, 11},
-    {45977, 17448, 21, 11}, {45999, 17448, 46, 11}, {46046, 17459, 13, 11}, {46080, 17459, 23, 11},
-    {46104, 17459, 20, 11}, {46125, 17459, 12, 11}, {46138, 17459, 38, 11}, {46177, 17470, 33, 10},
-    {46211, 17470, 24, 10}, {46236, 17470, 12, 10}, {46249, 17480, 26, 10}, {46276, 17490, 29, 10},
-    {46306, 17500, 32, 10}, {46339, 17510, 13, 11}, {46353, 17521, 8, 10}, {46362, 17521, 19, 10},
-    {46382, 17531, 10, 10}, {46393, 17531, 10, 10}, {46404, 17541, 10, 11}, {46415, 17541, 10, 11},
-    {46426, 17541, 11, 11}, {46438, 17552, 10, 10}, {46449, 17552, 10, 10}, {46460, 17562, 10, 11},
-    {46471, 17562, 10, 11}, {46482, 17562, 11, 11}, {46494, 17573, 7, 7}, {46502, 17580, 7, 8}, {46510, 17588, 7, 9},
-    {46518, 17597, 7, 10}, {46526, 17607, 7, 10}, {46534, 17617, 5, 10}, {46540, 17627, 5, 10}, {46546, 17637, 7, 10},
-    {46554, 17647, 11, 10}, {46566, 17657, 12, 10}, {46579, 17667, 8, 10}, {46592, 17677, 11, 10}, {46604, 17687, 6, 8},
-    {46611, 17695, 8, 9}, {46620, 17704, 12, 9}, {46633, 17713, 12, 9}, {46646, 17722, 12, 9}, {46659, 17731, 12, 9},
-    {46672, 17740, 12, 9}, {46685, 17749, 15, 9}, {46701, 17758, 15, 9}, {46717, 17767, 15, 9}, {46733, 17776, 15, 9},
-    {46749, 17785, 12, 9}, {46762, 17794, 14, 9}, {46777, 17803, 9, 9}, {46787, 17812, 9, 9}, {46797, 17821, 9, 9},
-    {46807, 17830, 14, 9}, {46822, 17839, 14, 9}, {46837, 17848, 13, 9}, {46851, 17857, 13, 9}, {46865, 17866, 13, 9},
-    {46879, 17875, 13, 9}, {46893, 17884, 13, 9}, {46907, 17893, 15, 9}, {46923, 17902, 10, 9}, {46934, 17920, 10, 9},
-    {46945, 17929, 10, 9}, {46956, 17938, 11, 9}, {46968, 17947, 12, 9}, {46981, 17956, 15, 9}, {46997, 17965, 8, 8},
-    {47006, 17973, 8, 9}, {47015, 17982, 8, 10}, {47024, 17992, 8, 10}, {47033, 18002, 10, 10}, {47044, 18012, 9, 10},
-    {47054, 18022, 9, 10}, {47064, 18032, 9, 10}, {47074, 18042, 12, 10}, {47087, 18052, 8, 8}, {47104, 18060, 8, 9},
-    {47113, 18069, 8, 10}, {47122, 18079, 7, 10}, {47130, 18089, 9, 10}, {47140, 18099, 10, 10}, {47151, 18109, 13, 10},
-    {47165, 18119, 8, 10}, {47174, 18129, 8, 10}, {47183, 18139, 7, 10}, {47191, 18149, 10, 10}, {47202, 18159, 14, 10},
-    {47217, 18169, 11, 10}, {47229, 18179, 12, 10}, {47242, 18189, 11, 10}, {47254, 18199, 12, 10},
-    {47267, 18209, 10, 10}, {47278, 18219, 11, 10}, {47290, 18229, 12, 10}, {47303, 18239, 11, 10},
-    {47315, 18249, 7, 8}, {47323, 18257, 7, 9}, {47331, 18266, 7, 10}, {47339, 18276, 7, 10}, {47347, 18286, 6, 10},
-    {47354, 18296, 8, 10}, {47363, 18306, 9, 10}, {47373, 18316, 11, 10}, {47385, 18326, 11, 10},
-    {47397, 18336, 12, 10}, {47410, 18346, 11, 8}, {47422, 18354, 7, 9}, {47430, 18363, 11, 9}, {47442, 18372, 8, 9},
-    {47451, 18381, 9, 9}, {47461, 18390, 8, 9}, {47470, 18399, 11, 9}, {47482, 18408, 15, 9}, {47498, 18417, 12, 9},
-    {47511, 18432, 9, 9}, {47521, 18441, 11, 9}, {47533, 18450, 9, 9}, {47543, 18459, 12, 9}, {47556, 18468, 12, 9},
-    {47569, 18477, 14, 9}, {47584, 18486, 12, 9}, {47597, 18495, 12, 9}, {47616, 18504, 14, 9}, {47631, 18513, 17, 9},
-    {47649, 18522, 11, 9}, {47661, 18531, 15, 9}, {47677, 18540, 15, 9}, {47693, 18549, 13, 9}, {47707, 18558, 15, 9},
-    {47723, 18567, 11, 9}, {47735, 18576, 12, 9}, {47748, 18585, 13, 9}, {47762, 18594, 13, 9}, {47776, 18603, 17, 9},
-    {47794, 18612, 12, 9}, {47807, 18621, 11, 8}, {47819, 18629, 15, 8}, {47835, 18637, 13, 9}, {47849, 18646, 12, 10},
-    {47862, 18656, 12, 11}, {47875, 18667, 12, 12}, {47888, 18679, 14, 12}, {47903, 18691, 17, 12},
-    {47921, 18703, 14, 12}, {47936, 18715, 17, 12}, {47954, 18727, 14, 12}, {47969, 18739, 14, 12},
-    {47984, 18751, 12, 12}, {47997, 18763, 12, 12}, {48010, 18775, 10, 12}, {48021, 18787, 12, 12},
-    {48034, 18799, 14, 12}, {48049, 18811, 17, 12}, {48067, 18823, 17, 12}, {48085, 18835, 17, 12},
-    {48103, 18847, 17, 12}, {48128, 18859, 12, 12}, {48141, 18871, 12, 12}, {48154, 18883, 12, 12},
-    {48167, 18895, 12, 12}, {48180, 18907, 12, 12}, {48193, 18919, 12, 12}, {48206, 18944, 12, 12},
-    {48219, 18956, 12, 12}, {48232, 18968, 12, 12}, {48245, 18980, 13, 12}, {48259, 18992, 11, 9},
-    {48271, 19001, 14, 10}, {48286, 19011, 10, 10}, {48297, 19021, 10, 11}, {48308, 19032, 10, 12},
-    {48319, 19044, 9, 12}, {48329, 19056, 9, 12}, {48339, 19068, 10, 12}, {48350, 19080, 11, 12}, {48362, 19092, 12, 9},
-    {48375, 19101, 11, 10}, {48387, 19111, 11, 11}, {48399, 19122, 11, 12}, {48411, 19134, 12, 12},
-    {48424, 19146, 11, 12}, {48436, 19158, 14, 12}, {48451, 19170, 11, 12}, {48463, 19182, 12, 12},
-    {48476, 19194, 9, 12}, {48486, 19206, 9, 12}, {48496, 19218, 10, 12}, {48507, 19230, 12, 12},
-    {48520, 19242, 15, 12}, {48536, 19254, 14, 12}, {48551, 19266, 9, 9}, {48561, 19275, 12, 10},
-    {48574, 19285, 18, 10}, {48593, 19295, 18, 11}, {48612, 19306, 18, 12}, {48640, 19318, 19, 12},
-    {48660, 19330, 18, 12}, {48679, 19342, 17, 10}, {48697, 19352, 17, 11}, {48715, 19363, 17, 12},
-    {48733, 19375, 18, 12}, {48752, 19387, 17, 12}, {48770, 19399, 18, 10}, {48789, 19409, 18, 11},
-    {48808, 19420, 18, 12}, {48827, 19432, 19, 12}, {48847, 19456, 18, 12}, {48866, 19468, 18, 10},
-    {48885, 19478, 18, 11}, {48904, 19489, 18, 12}, {48923, 19501, 19, 12}, {48943, 19513, 18, 12},
-    {48962, 19525, 10, 8}, {48973, 19533, 17, 9}, {48991, 19542, 13, 10}, {49005, 19552, 16, 11},
-    {49022, 19563, 19, 11}, {49042, 19574, 15, 11}, {49058, 19585, 17, 11}, {49076, 19596, 9, 8}, {49086, 19604, 9, 9},
-    {49096, 19613, 9, 10}, {49106, 19623, 8, 10}, {49115, 19633, 8, 10}, {49124, 19643, 7, 10}, {49132, 19653, 13, 10},
-    {49152, 19663, 12, 10}, {49165, 19673, 8, 8}, {49174, 19681, 18, 9}, {49193, 19690, 13, 9}, {49207, 19699, 13, 10},
-    {49221, 19709, 13, 11}, {49235, 19720, 12, 11}, {49248, 19731, 16, 11}, {49265, 19742, 13, 11},
-    {49279, 19753, 21, 11}, {49301, 19764, 19, 11}, {49321, 19775, 22, 11}, {49344, 19786, 20, 11},
-    {49365, 19797, 15, 11}, {49381, 19808, 13, 11}, {49395, 19819, 13, 11}, {49409, 19830, 17, 11},
-    {49427, 19841, 24, 11}, {49452, 19852, 7, 8}, {49460, 19860, 12, 9}, {49473, 19869, 10, 9}, {49484, 19878, 11, 9},
-    {49496, 19887, 12, 9}, {49509, 19896, 12, 9}, {49522, 19905, 23, 9}, {49546, 19914, 17, 9}, {49564, 19923, 19, 9},
-    {49584, 19932, 19, 9}, {49604, 19941, 25, 9}, {49630, 19950, 18, 9}, {49649, 19968, 8, 8}, {49664, 19976, 12, 9},
-    {49677, 19985, 12, 9}, {49690, 19994, 16, 9}, {49707, 20003, 17, 9}, {49725, 20012, 7, 8}, {49733, 20020, 7, 9},
-    {49741, 20029, 7, 10}, {49749, 20039, 12, 10}, {49762, 20049, 12, 9}, {49775, 20058, 7, 10}, {49783, 20068, 8, 9},
-    {49792, 20077, 8, 10}, {49801, 20087, 11, 10}, {49813, 20097, 6, 9}, {49820, 20097, 6, 9}, {49827, 20106, 27, 10},
-    {49855, 20116, 5, 10}, {49861, 20126, 8, 10}, {49870, 20136, 15, 10}, {49886, 20136, 11, 10},
-    {49898, 20146, 11, 10}, {49910, 20156, 10, 10}, {49921, 20166, 14, 10}, {49936, 20176, 25, 10},
-    {49962, 20186, 25, 10}, {49988, 20196, 29, 10}, {50018, 20206, 33, 10}, {50052, 20216, 35, 10},
-    {50088, 20226, 13, 10}, {50102, 20236, 23, 10}, {50126, 20246, 23, 10}, {50150, 20256, 18, 10},
-    {50176, 20266, 13, 11}, {50190, 20277, 10, 13}, {50201, 20290, 7, 13}, {50209, 20303, 10, 13},
-    {50220, 20316, 13, 13}, {50234, 20329, 11, 13}, {50246, 20342, 12, 13}, {50259, 20355, 10, 13},
-    {50270, 20368, 14, 10}, {50285, 20378, 17, 10}, {50303, 20388, 16, 10}, {50320, 20398, 11, 12},
-    {50332, 20410, 11, 12}, {50344, 20422, 7, 7}, {50352, 20429, 14, 8}, {50367, 20437, 9, 9}, {50377, 20446, 13, 9},
-    {50391, 20455, 13, 10}, {50405, 20465, 13, 11}, {50419, 20480, 14, 12}, {50434, 20492, 20, 12},
-    {50455, 20504, 23, 12}, {50479, 20516, 12, 12}, {50492, 20528, 13, 12}, {50506, 20540, 15, 12},
-    {50522, 20552, 12, 9}, {50535, 20561, 16, 10}, {50552, 20571, 15, 10}, {50568, 20581, 18, 11},
-    {50587, 20592, 19, 11}, {50607, 20603, 19, 12}, {50627, 20615, 13, 13}, {50641, 20628, 15, 13},
-    {50657, 20641, 12, 13}, {50670, 20654, 13, 13}, {50688, 20667, 17, 13}, {50706, 20680, 16, 13},
-    {50723, 20693, 15, 13}, {50739, 20706, 15, 13}, {50755, 20719, 14, 13}, {50770, 20732, 20, 11},
-    {50791, 20743, 20, 12}, {50812, 20755, 19, 13}, {50832, 20768, 18, 13}, {50851, 20781, 19, 13},
-    {50871, 20794, 14, 13}, {50886, 20807, 20, 11}, {50907, 20818, 20, 12}, {50928, 20830, 17, 13},
-    {50946, 20843, 15, 13}, {50962, 20856, 14, 10}, {50977, 20866, 19, 11}, {50997, 20877, 19, 11},
-    {51017, 20888, 7, 9}, {51025, 20897, 7, 9}, {51033, 20906, 21, 10}, {51055, 20916, 14, 10}, {51070, 20926, 12, 10},
-    {51083, 20936, 12, 11}, {51096, 20947, 11, 12}, {51108, 20959, 14, 12}, {51123, 20971, 13, 12},
-    {51137, 20992, 14, 9}, {51152, 21001, 15, 9}, {51168, 21010, 13, 10}, {51182, 21020, 14, 11},
-    {51200, 21031, 16, 11}, {51217, 21042, 14, 11}, {51232, 21053, 17, 11}, {51250, 21064, 17, 12},
-    {51268, 21076, 18, 13}, {51287, 21089, 18, 13}, {51306, 21102, 15, 10}, {51322, 21112, 14, 11},
-    {51337, 21123, 14, 12}, {51352, 21135, 10, 13}, {51363, 21148, 10, 13}, {51374, 21161, 9, 13},
-    {51384, 21174, 13, 13}, {51398, 21187, 11, 13}, {51410, 21200, 14, 9}, {51425, 21209, 18, 10},
-    {51444, 21219, 18, 11}, {51463, 21230, 15, 12}, {51479, 21242, 17, 12}, {51497, 21254, 14, 9},
-    {51512, 21263, 17, 10}, {51530, 21273, 17, 11}, {51548, 21284, 14, 12}, {51563, 21296, 18, 12},
-    {51582, 21308, 14, 12}, {51597, 21320, 17, 12}, {51615, 21332, 12, 12}, {51628, 21344, 15, 8},
-    {51644, 21352, 21, 9}, {51666, 21361, 21, 10}, {51712, 21371, 21, 10}, {51734, 21381, 20, 10},
-    {51755, 21391, 20, 9}, {51776, 21400, 18, 10}, {51795, 21410, 18, 11}, {51814, 21421, 12, 12},
-    {51827, 21433, 14, 12}, {51842, 21445, 14, 12}, {51857, 21457, 17, 10}, {51875, 21467, 17, 11},
-    {51893, 21478, 15, 12}, {51909, 21504, 22, 12}, {51932, 21516, 18, 12}, {51951, 21528, 18, 12},
-    {51970, 21540, 20, 12}, {51991, 21552, 27, 9}, {52019, 21561, 32, 10}, {52052, 21571, 35, 11},
-    {52088, 21582, 26, 10}, {52115, 21592, 33, 10}, {52149, 21602, 27, 11}, {52177, 21613, 27, 11},
-    {52224, 21624, 19, 10}, {52244, 21634, 17, 11}, {52262, 21645, 16, 11}, {52279, 21656, 16, 12},
-    {52296, 21668, 16, 13}, {52313, 21681, 18, 13}, {52332, 21694, 14, 13}, {52347, 21707, 20, 11},
-    {52368, 21718, 20, 11}, {52389, 21729, 18, 11}, {52408, 21740, 16, 11}, {52425, 21751, 20, 11},
-    {52446, 21762, 20, 11}, {52467, 21773, 19, 11}, {52487, 21784, 19, 8}, {52507, 21792, 16, 9},
-    {52524, 21801, 10, 10}, {52535, 21811, 15, 10}, {52551, 21821, 16, 9}, {52568, 21830, 6, 10}, {52575, 21840, 14, 9},
-    {52590, 21849, 16, 10}, {52607, 21859, 17, 10}, {52625, 21869, 20, 10}, {52646, 21879, 20, 10},
-    {52667, 21889, 20, 10}, {52688, 21899, 21, 10}, {52710, 21909, 18, 10}, {52736, 21919, 20, 10},
-    {52757, 21929, 21, 10}, {52779, 21939, 19, 10}, {52799, 21949, 25, 8}, {52825, 21957, 20, 9},
-    {52846, 21966, 13, 10}, {52860, 21976, 16, 10}, {52877, 21986, 15, 10}, {52893, 21996, 26, 9},
-    {52920, 22005, 18, 8}, {52939, 22016, 18, 9}, {52958, 22025, 13, 9}, {52972, 22034, 13, 10}, {52986, 22044, 12, 10},
-    {52999, 22054, 14, 10}, {53014, 22064, 12, 11}, {53027, 22075, 14, 11}, {53042, 22086, 18, 10},
-    {53061, 22096, 18, 10}, {53080, 22106, 19, 9}, {53100, 22115, 14, 11}, {53115, 22126, 15, 10},
-    {53131, 22126, 22, 10}, {53154, 22126, 30, 10}, {53185, 22126, 13, 10}, {53199, 22126, 38, 10},
-    {53248, 22136, 17, 10}, {53266, 22136, 24, 10}, {53291, 22136, 8, 10}, {53300, 22146, 17, 10},
-    {53318, 22146, 24, 10}, {53343, 22156, 12, 10}, {53356, 22156, 19, 10}, {53376, 22166, 9, 9}, {53386, 22166, 6, 9},
-    {53393, 22175, 10, 9}, {53404, 22184, 31, 11}, {53436, 22195, 22, 9}, {53459, 22195, 40, 9}, {53500, 22204, 8, 4},
-    {53509, 22204, 8, 4}, {53518, 22208, 10, 5}, {53529, 22208, 7, 5}, {53537, 22213, 13, 6}, {53551, 22219, 9, 6},
-    {53561, 22225, 18, 7}, {53580, 22232, 19, 7}, {53600, 22239, 18, 7}, {53619, 22246, 16, 7}, {53636, 22246, 18, 7},
-    {53655, 22246, 22, 7}, {53678, 22253, 9, 7}, {53688, 22253, 20, 7}, {53709, 22253, 15, 7}, {53725, 22253, 19, 7},
-    {53760, 22253, 18, 7}, {53779, 22260, 13, 7}, {53793, 22267, 21, 8}, {53815, 22275, 23, 8}, {53839, 22283, 23, 8},
-    {53863, 22291, 23, 8}, {53887, 22299, 15, 6}, {53903, 22305, 6, 7}, {53910, 22312, 6, 6}, {53917, 22312, 5, 6},
-    {53923, 22318, 4, 6}, {53928, 22318, 10, 6}, {53939, 22324, 11, 7}, {53951, 22331, 20, 8}, {53972, 22339, 20, 8},
-    {53993, 22347, 20, 8}, {54014, 22355, 20, 8}, {54035, 22363, 11, 8}, {54047, 22371, 10, 8}, {54058, 22379, 21, 8},
-    {54080, 22387, 21, 8}, {54102, 22395, 10, 8}, {54113, 22403, 24, 8}, {54138, 22411, 24, 8}, {54163, 22419, 21, 8},
-    {54185, 22427, 25, 8}, {54211, 22435, 11, 8}, {54223, 22443, 11, 8}, {54235, 22451, 14, 8}, {54250, 22459, 17, 8},
-    {54272, 22467, 17, 8}, {54290, 22475, 17, 8}, {54308, 22483, 13, 7}, {54322, 22490, 19, 8}, {54342, 22490, 28, 8},
-    {54371, 22490, 27, 8}, {54399, 22490, 14, 8}, {54414, 22498, 13, 8}, {54428, 22498, 14, 8}, {54443, 22498, 19, 8},
-    {54463, 22498, 19, 8}, {54483, 22506, 12, 8}, {54496, 22506, 18, 8}, {54515, 22506, 23, 8}, {54539, 22514, 14, 8},
-    {54554, 22514, 16, 8}, {54571, 22514, 21, 8}, {54593, 22514, 14, 8}, {54608, 22528, 12, 8}, {54621, 22536, 10, 8},
-    {54632, 22544, 16, 8}, {54649, 22544, 18, 8}, {54668, 22552, 21, 8}, {54690, 22552, 22, 8}, {54713, 22560, 21, 8},
-    {54735, 22568, 11, 8}, {54747, 22576, 17, 8}, {54784, 22576, 26, 8}, {54811, 22576, 25, 8}, {54837, 22576, 19, 8},
-    {54857, 22584, 14, 8}, {54872, 22584, 18, 8}, {54891, 22592, 14, 8}, {54906, 22600, 13, 8}, {54920, 22600, 29, 8},
-    {54950, 22600, 19, 8}, {54970, 22608, 10, 8}, {54981, 22608, 11, 8}, {54993, 22608, 11, 8}, {55005, 22608, 16, 8},
-    {55022, 22608, 22, 8}, {55045, 22608, 13, 8}, {55059, 22608, 43, 8}, {55103, 22608, 12, 8}, {55116, 22616, 13, 8},
-    {55130, 22624, 16, 8}, {55147, 22632, 18, 8}, {55166, 22632, 21, 8}, {55188, 22640, 23, 8}, {55212, 22640, 25, 8},
-    {55238, 22648, 20, 8}, {55259, 22648, 31, 8}, {55296, 22648, 3, 8}, {55300, 22648, 26, 8}, {55327, 22656, 28, 8},
-    {55356, 22656, 38, 8}, {55395, 22656, 11, 8}, {55407, 22656, 26, 8}, {55434, 22664, 10, 8}, {55445, 22672, 13, 7},
-    {55459, 22679, 10, 8}, {55470, 22679, 29, 8}, {55500, 22679, 25, 8}, {55526, 22679, 21, 8}, {55548, 22679, 14, 8},
-    {55563, 22679, 41, 8}, {55605, 22687, 10, 8}, {55616, 22687, 29, 8}, {55646, 22687, 25, 8}, {55672, 22687, 21, 8},
-    {55694, 22687, 14, 8}, {55709, 22687, 41, 8}, {55751, 22695, 11, 8}, {55763, 22695, 12, 8}, {55776, 22695, 26, 8},
-    {55808, 22695, 24, 8}, {55833, 22703, 15, 8}, {55849, 22703, 17, 8}, {55867, 22703, 30, 8}, {55898, 22703, 12, 8},
-    {55911, 22703, 16, 8}, {55928, 22703, 29, 8}, {55958, 22711, 14, 8}, {55973, 22711, 16, 8}, {55990, 22711, 20, 8},
-    {56011, 22711, 30, 8}, {56042, 22711, 22, 8}, {56065, 22719, 11, 8}, {56077, 22719, 12, 8}, {56090, 22719, 17, 8},
-    {56108, 22719, 26, 8}, {56135, 22719, 30, 8}, {56166, 22727, 9, 8}, {56176, 22727, 10, 8}, {56187, 22727, 15, 8},
-    {56203, 22727, 24, 8}, {56228, 22727, 16, 8}, {56245, 22735, 12, 8}, {56258, 22735, 13, 8}, {56272, 22735, 31, 8},
-    {56320, 22735, 24, 8}, {56345, 22743, 11, 8}, {56357, 22743, 12, 8}, {56370, 22751, 4, 8}, {56375, 22751, 4, 8},
-    {56380, 22759, 16, 8}, {56397, 22767, 16, 8}, {56414, 22775, 8, 8}, {56423, 22775, 27, 8}, {56451, 22775, 9, 8},
-    {56461, 22775, 21, 8}, {56483, 22783, 8, 8}, {56492, 22783, 25, 8}, {56518, 22791, 9, 8}, {56528, 22791, 30, 8},
-    {56559, 22799, 15, 8}, {56575, 22807, 17, 8}, {56593, 22807, 10, 8}, {56604, 22807, 23, 8}, {56628, 22815, 17, 8},
-    {56646, 22815, 10, 8}, {56657, 22815, 23, 8}, {56681, 22823, 10, 8}, {56692, 22823, 11, 8}, {56704, 22831, 17, 8},
-    {56722, 22831, 19, 8}, {56742, 22839, 9, 8}, {56752, 22839, 10, 8}, {56763, 22847, 16, 8}, {56780, 22847, 18, 8},
-    {56799, 22855, 5, 8}, {56832, 22855, 25, 8}, {56858, 22855, 11, 8}, {56870, 22863, 5, 8}, {56876, 22863, 26, 8},
-    {56903, 22863, 11, 8}, {56915, 22863, 16, 8}, {56932, 22871, 10, 8}, {56943, 22871, 18, 8}, {56962, 22879, 19, 8},
-    {56982, 22879, 13, 8}, {56996, 22887, 44, 8}, {57041, 22887, 42, 8}, {57084, 22895, 5, 8}, {57090, 22895, 47, 8},
-    {57138, 22903, 25, 8}, {57164, 22911, 26, 8}, {57191, 22919, 13, 8}, {57205, 22927, 21, 8}, {57227, 22935, 21, 8},
-    {57249, 22943, 16, 8}, {57266, 22951, 17, 8}, {57284, 22959, 19, 8}, {57304, 22967, 10, 8}, {57344, 22975, 26, 9},
-    {57371, 22984, 16, 9}, {57388, 22993, 20, 9}, {57409, 23002, 12, 8}, {57422, 23010, 23, 8}, {57446, 23010, 19, 8},
-    {57466, 23010, 30, 8}, {57497, 23018, 13, 8}, {57511, 23026, 22, 8}, {57534, 23040, 22, 8}, {57557, 23048, 22, 8},
-    {57580, 23056, 22, 8}, {57603, 23064, 18, 8}, {57622, 23072, 25, 8}, {57648, 23072, 20, 8}, {57669, 23080, 20, 8},
-    {57690, 23088, 14, 8}, {57705, 23088, 8, 8}, {57714, 23096, 9, 8}, {57724, 23104, 12, 8}, {57737, 23104, 7, 8},
-    {57745, 23112, 14, 8}, {57760, 23112, 8, 8}, {57769, 23120, 21, 8}, {57791, 23120, 17, 8}, {57809, 23128, 18, 8},
-    {57828, 23136, 19, 8}, {57856, 23136, 12, 8}, {57869, 23144, 13, 8}, {57883, 23144, 6, 8}, {57890, 23152, 27, 8},
-    {57918, 23152, 20, 8}, {57939, 23160, 25, 8}, {57965, 23160, 18, 8}, {57984, 23168, 11, 8}, {57996, 23176, 22, 8},
-    {58019, 23184, 22, 8}, {58042, 23192, 10, 8}, {58053, 23200, 15, 8}, {58069, 23208, 17, 8}, {58087, 23216, 19, 8},
-    {58107, 23224, 10, 8}, {58118, 23232, 18, 8}, {58137, 23232, 12, 8}, {58150, 23240, 17, 8}, {58168, 23240, 11, 8},
-    {58180, 23248, 18, 8}, {58199, 23248, 11, 8}, {58211, 23256, 20, 7}, {58232, 23263, 4, 8}, {58237, 23263, 15, 8},
-    {58253, 23263, 41, 8}, {58295, 23263, 39, 8}, {58335, 23271, 17, 9}, {58368, 23271, 19, 9}, {58388, 23271, 37, 9},
-    {58426, 23271, 17, 9}, {58444, 23271, 19, 9}, {58464, 23280, 5, 9}, {58470, 23280, 10, 9}, {58481, 23280, 21, 9},
-    {58503, 23280, 9, 9}, {58513, 23280, 12, 9}, {58526, 23280, 20, 9}, {58547, 23289, 5, 9}, {58553, 23289, 11, 9},
-    {58565, 23298, 19, 9}, {58585, 23298, 25, 9}, {58611, 23307, 7, 9}, {58619, 23307, 13, 9}, {58633, 23307, 23, 9},
-    {58657, 23307, 11, 9}, {58669, 23307, 23, 9}, {58693, 23316, 13, 9}, {58707, 23316, 19, 9}, {58727, 23325, 14, 9},
-    {58742, 23325, 20, 9}, {58763, 23334, 14, 9}, {58778, 23334, 20, 9}, {58799, 23343, 5, 9}, {58805, 23352, 4, 9},
-    {58810, 23361, 9, 9}, {58820, 23361, 10, 9}, {58831, 23370, 9, 8}, {58841, 23370, 10, 8}, {58852, 23370, 21, 8},
-    {58880, 23370, 29, 8}, {58910, 23378, 15, 8}, {58926, 23378, 16, 8}, {58943, 23378, 24, 8}, {58968, 23386, 7, 8},
-    {58976, 23386, 7, 8}, {58984, 23394, 12, 8}, {58997, 23394, 13, 8}, {59011, 23394, 24, 8}, {59036, 23402, 16, 8},
-    {59053, 23410, 15, 8}, {59069, 23418, 12, 8}, {59082, 23418, 13, 8}, {59096, 23418, 18, 8}, {59115, 23426, 12, 8},
-    {59128, 23426, 13, 8}, {59142, 23426, 18, 8}, {59161, 23434, 9, 8}, {59171, 23442, 10, 8}, {59182, 23442, 11, 8},
-    {59194, 23450, 16, 8}, {59211, 23458, 8, 8}, {59220, 23458, 8, 8}, {59229, 23466, 13, 8}, {59243, 23474, 31, 8},
-    {59275, 23474, 28, 8}, {59304, 23474, 27, 8}, {59332, 23474, 22, 8}, {59355, 23482, 6, 6}, {59362, 23488, 18, 6},
-    {59392, 23494, 20, 6}, {59413, 23500, 6, 4}, {59420, 23500, 6, 4}, {59427, 23500, 6, 4}, {59434, 23504, 11, 5},
-    {59446, 23509, 10, 5}, {59457, 23514, 11, 5}, {59469, 23519, 7, 6}, {59477, 23525, 14, 7}, {59492, 23532, 8, 8},
-    {59501, 23540, 11, 9}, {59513, 23552, 18, 9}, {59532, 23561, 9, 8}, {59542, 23569, 9, 9}, {59552, 23578, 9, 9},
-    {59562, 23587, 8, 9}, {59571, 23596, 6, 9}, {59578, 23605, 21, 9}, {59600, 23614, 7, 8}, {59608, 23622, 15, 9},
-    {59624, 23631, 18, 7}, {59643, 23638, 18, 8}, {59662, 23646, 19, 9}, {59682, 23655, 23, 9}, {59706, 23664, 13, 8},
-    {59720, 23672, 12, 9}, {59733, 23681, 11, 9}, {59745, 23690, 27, 9}, {59773, 23699, 9, 9}, {59783, 23708, 18, 9},
-    {59802, 23717, 17, 9}, {59820, 23726, 30, 9}, {59851, 23735, 21, 9}, {59873, 23744, 16, 6}, {59904, 23750, 18, 7},
-    {59923, 23757, 17, 8}, {59941, 23765, 17, 9}, {59959, 23774, 22, 9}, {59982, 23783, 22, 9}, {60005, 23792, 17, 8},
-    {60023, 23800, 17, 9}, {60041, 23809, 18, 9}, {60060, 23818, 23, 7}, {60084, 23825, 10, 8}, {60095, 23833, 12, 9},
-    {60108, 23842, 15, 9}, {60124, 23851, 14, 9}, {60139, 23860, 24, 9}, {60164, 23869, 10, 6}, {60175, 23875, 13, 7},
-    {60189, 23882, 8, 8}, {60198, 23890, 28, 9}, {60227, 23899, 24, 9}, {60252, 23908, 24, 9}, {60277, 23917, 24, 9},
-    {60302, 23926, 20, 9}, {60323, 23935, 24, 9}, {60348, 23944, 7, 8}, {60356, 23952, 15, 9}, {60372, 23961, 12, 9},
-    {60385, 23970, 12, 10}, {60416, 23980, 15, 11}, {60432, 23991, 11, 11}, {60444, 24002, 19, 11},
-    {60464, 24013, 16, 11}, {60481, 24024, 19, 11}, {60501, 24035, 20, 11}, {60522, 24046, 23, 11},
-    {60546, 24064, 19, 11}, {60566, 24075, 20, 11}, {60587, 24086, 23, 11}, {60611, 24097, 13, 11},
-    {60625, 24108, 18, 11}, {60644, 24119, 13, 11}, {60658, 24130, 11, 6}, {60670, 24136, 14, 7}, {60685, 24143, 16, 8},
-    {60702, 24151, 16, 9}, {60719, 24160, 15, 10}, {60735, 24170, 17, 10}, {60753, 24180, 24, 8}, {60778, 24188, 24, 9},
-    {60803, 24197, 17, 10}, {60821, 24207, 16, 10}, {60838, 24217, 13, 10}, {60852, 24227, 30, 10},
-    {60883, 24237, 25, 10}, {60909, 24247, 15, 8}, {60928, 24255, 15, 9}, {60944, 24264, 23, 10},
-    {60968, 24274, 23, 10}, {60992, 24284, 23, 10}, {61016, 24294, 22, 10}, {61039, 24304, 22, 10},
-    {61062, 24314, 23, 10}, {61086, 24324, 24, 10}, {61111, 24334, 21, 10}, {61133, 24344, 16, 10},
-    {61150, 24354, 12, 8}, {61163, 24362, 16, 9}, {61180, 24371, 23, 9}, {61204, 24380, 23, 10}, {61228, 24390, 26, 11},
-    {61255, 24401, 25, 11}, {61281, 24412, 22, 11}, {61304, 24423, 22, 11}, {61327, 24434, 29, 11},
-    {61357, 24445, 24, 11}, {61382, 24456, 4, 4}, {61387, 24460, 8, 5}, {61396, 24460, 8, 5}, {61405, 24465, 17, 6},
-    {61440, 24471, 22, 7}, {61463, 24478, 24, 7}, {61488, 24485, 15, 6}, {61504, 24491, 9, 4}, {61514, 24495, 10, 5},
-    {61525, 24495, 10, 5}, {61536, 24500, 7, 5}, {61544, 24500, 7, 5}, {61552, 24505, 7, 5}, {61560, 24505, 7, 5},
-    {61568, 24505, 6, 5}, {61575, 24505, 7, 5}, {61583, 24505, 3, 5}, {61587, 24510, 7, 5}, {61595, 24510, 7, 5},
-    {61603, 24515, 7, 5}, {61611, 24515, 7, 5}, {61619, 24520, 12, 5}, {61632, 24525, 7, 5}, {61640, 24525, 17, 5},
-    {61658, 24530, 7, 5}, {61666, 24530, 10, 5}, {61677, 24535, 7, 5}, {61685, 24535, 20, 5}, {61706, 24540, 7, 5},
-    {61714, 24540, 7, 5}, {61722, 24540, 11, 5}, {61734, 24540, 6, 5}, {61741, 24545, 3, 5}, {61745, 24545, 3, 5},
-    {61749, 24550, 5, 5}, {61755, 24550, 4, 5}, {61760, 24550, 4, 5}, {61765, 24550, 9, 5}, {61775, 24550, 5, 5},
-    {61781, 24555, 12, 5}, {61794, 24555, 15, 5}, {61810, 24560, 10, 5}, {61821, 24560, 11, 5}, {61833, 24565, 9, 5},
-    {61843, 24565, 9, 5}, {61853, 24565, 6, 5}, {61860, 24565, 10, 5}, {61871, 24565, 6, 5}, {61878, 24576, 13, 6},
-    {61892, 24576, 16, 6}, {61909, 24576, 10, 6}, {61920, 24582, 16, 5}, {61952, 24582, 47, 5}, {62000, 24582, 10, 5},
-    {62011, 24587, 7, 5}, {62019, 24587, 18, 5}, {62038, 24592, 6, 3}, {62045, 24592, 13, 3}, {62059, 24595, 4, 3},
-    {62064, 24595, 11, 3}, {62076, 24598, 7, 3}, {62084, 24598, 7, 3}, {62092, 24598, 13, 3}, {62106, 24598, 15, 3},
-    {62122, 24601, 5, 3}, {62128, 24601, 5, 3}, {62134, 24601, 11, 3}, {62146, 24601, 13, 3}, {62160, 24604, 4, 2},
-    {62165, 24606, 10, 5}, {62176, 24606, 38, 5}, {62215, 24611, 11, 8}, {62227, 24611, 11, 8}, {62239, 24619, 11, 8},
-    {62251, 24619, 11, 8}, {62263, 24627, 12, 3}, {62276, 24630, 5, 5}, {62282, 24630, 10, 5}, {62293, 24635, 9, 5},
-    {62303, 24640, 9, 5}, {62313, 24645, 9, 5}, {62323, 24650, 9, 5}, {62333, 24655, 9, 5}, {62343, 24660, 9, 5},
-    {62353, 24665, 9, 5}, {62363, 24670, 9, 5}, {62373, 24675, 9, 5}, {62383, 24680, 5, 5}, {62389, 24680, 10, 5},
-    {62400, 24685, 5, 5}, {62406, 24685, 10, 5}, {62417, 24690, 5, 5}, {62423, 24690, 10, 5}, {62434, 24695, 9, 5},
-    {62444, 24700, 9, 5}, {62464, 24705, 9, 5}, {62474, 24710, 9, 5}, {62484, 24715, 5, 5}, {62490, 24715, 10, 5},
-    {62501, 24720, 5, 5}, {62507, 24720, 10, 5}, {62518, 24725, 9, 5}, {62528, 24730, 9, 5}, {62538, 24735, 9, 5},
-    {62548, 24740, 9, 5}, {62558, 24745, 9, 5}, {62568, 24750, 5, 5}, {62574, 24750, 10, 5}, {62585, 24750, 4, 5},
-    {62590, 24755, 5, 5}, {62596, 24755, 8, 5}, {62605, 24755, 10, 5}, {62616, 24755, 4, 5}, {62621, 24760, 5, 5},
-    {62627, 24760, 8, 5}, {62636, 24760, 10, 5}, {62647, 24760, 4, 5}, {62652, 24765, 5, 5}, {62658, 24765, 10, 5},
-    {62669, 24770, 5, 5}, {62675, 24770, 10, 5}, {62686, 24775, 5, 5}, {62692, 24775, 10, 5}, {62703, 24780, 5, 5},
-    {62709, 24780, 10, 5}, {62720, 24785, 7, 5}, {62728, 24785, 4, 5}, {62733, 24790, 4, 1}, {62738, 24790, 26, 1},
-    {62765, 24791, 24, 3}, {62790, 24791, 24, 3}, {62815, 24794, 9, 4}, {62825, 24798, 4, 2}, {62830, 24800, 16, 3},
-    {62847, 24803, 16, 3}, {62864, 24803, 11, 3}, {62876, 24803, 16, 3}, {62893, 24806, 13, 3}, {62907, 24809, 18, 3},
-    {62926, 24809, 13, 3}, {62940, 24809, 18, 3}, {62976, 24812, 17, 3}, {62994, 24812, 17, 3}, {63012, 24815, 18, 3},
-    {63031, 24815, 18, 3}, {63050, 24818, 25, 3}, {63076, 24818, 1, 3}, {63078, 24818, 16, 3}, {63095, 24818, 14, 3},
-    {63110, 24818, 9, 3}, {63120, 24818, 27, 3}, {63148, 24821, 19, 3}, {63168, 24824, 22, 3}, {63191, 24824, 7, 3},
-    {63199, 24824, 22, 3}, {63222, 24827, 28, 3}, {63251, 24827, 19, 3}, {63271, 24827, 11, 3}, {63283, 24827, 29, 3},
-    {63313, 24830, 11, 3}, {63325, 24830, 1, 3}, {63327, 24833, 17, 3}, {63345, 24836, 14, 3}, {63360, 24839, 11, 3},
-    {63372, 24842, 5, 3}, {63378, 24842, 6, 3}, {63385, 24845, 28, 4}, {63414, 24849, 12, 3}, {63427, 24852, 3, 3},
-    {63431, 24852, 10, 3}, {63442, 24855, 8, 3}, {63451, 24858, 13, 3}, {63488, 24861, 21, 3}, {63510, 24861, 16, 3},
-    {63527, 24864, 14, 3}, {63542, 24867, 27, 3}, {63570, 24870, 10, 3}, {63581, 24873, 15, 3}, {63597, 24873, 1, 3},
-    {63599, 24873, 10, 3}, {63610, 24873, 15, 3}, {63626, 24876, 14, 3}, {63641, 24876, 1, 3}, {63643, 24879, 25, 3},
-    {63669, 24879, 20, 3}, {63690, 24882, 17, 3}, {63708, 24885, 17, 3}, {63726, 24885, 12, 3}, {63739, 24885, 17, 3},
-    {63757, 24888, 18, 3}, {63776, 24891, 16, 3}, {63793, 24894, 29, 3}, {63823, 24897, 34, 3}, {63858, 24900, 13, 3},
-    {63872, 24903, 30, 3}, {63903, 24906, 32, 3}, {63936, 24909, 15, 3}, {63952, 24912, 13, 3}, {63966, 24915, 10, 3},
-    {63977, 24918, 4, 3}, {63982, 24921, 14, 3}, {64000, 24924, 14, 3}, {64015, 24927, 16, 3}, {64032, 24930, 13, 3},
-    {64046, 24933, 22, 3}, {64069, 24936, 2, 3}, {64072, 24936, 13, 3}, {64086, 24939, 2, 3}, {64089, 24939, 13, 3},
-    {64103, 24942, 7, 3}, {64111, 24945, 7, 3}, {64119, 24948, 5, 3}, {64125, 24951, 6, 3}, {64132, 24954, 24, 3},
-    {64157, 24957, 15, 3}, {64173, 24960, 17, 3}, {64191, 24963, 24, 3}, {64216, 24966, 14, 2}, {64231, 24966, 31, 2},
-    {64263, 24968, 3, 4}, {64267, 24968, 3, 4}, {64271, 24972, 8, 4}, {64280, 24972, 11, 4}, {64292, 24976, 4, 4},
-    {64297, 24976, 4, 4}, {64302, 24980, 26, 3}, {64329, 24983, 30, 3}, {64360, 24986, 25, 3}, {64386, 24989, 15, 3},
-    {64402, 24992, 30, 3}, {64433, 24995, 20, 3}, {64454, 24998, 27, 3}, {64482, 25001, 22, 3}, {64512, 25004, 21, 3},
-    {64534, 25007, 26, 3}, {64561, 25007, 35, 3}, {64597, 25007, 23, 3}, {64621, 25007, 28, 3}, {64650, 25007, 40, 3},
-    {64691, 25010, 23, 3}, {64715, 25013, 20, 3}, {64736, 25013, 29, 3}, {64766, 25013, 28, 3}, {64795, 25013, 22, 3},
-    {64818, 25013, 14, 3}, {64833, 25013, 12, 3}, {64846, 25013, 26, 3}, {64873, 25016, 8, 3}, {64882, 25016, 16, 3},
-    {64899, 25016, 15, 3}, {64915, 25016, 9, 3}, {64925, 25016, 10, 3}, {64936, 25016, 21, 3}, {64958, 25019, 21, 3},
-    {64980, 25019, 31, 3}, {65024, 25019, 29, 3}, {65054, 25019, 24, 3}, {65079, 25019, 15, 3}, {65095, 25019, 36, 3},
-    {65132, 25022, 14, 3}, {65147, 25022, 31, 3}, {65179, 25022, 23, 3}, {65203, 25022, 24, 3}, {65228, 25022, 17, 3},
-    {65246, 25022, 25, 3}, {65272, 25022, 22, 3}, {65295, 25022, 28, 3}, {65324, 25025, 13, 3}, {65338, 25025, 30, 3},
-    {65369, 25025, 22, 3}, {65392, 25025, 23, 3}, {65416, 25025, 21, 3}, {65438, 25025, 27, 3}, {65466, 25028, 16, 3},
-    {65483, 25028, 24, 3}, {65508, 25028, 24, 3}, {65536, 25028, 17, 3}, {65554, 25028, 29, 3}, {65584, 25031, 9, 3},
-    {65594, 25031, 17, 3}, {65612, 25031, 16, 3}, {65629, 25031, 10, 3}, {65640, 25034, 9, 3}, {65650, 25034, 22, 3},
-    {65673, 25034, 21, 3}, {65695, 25034, 15, 3}, {65711, 25034, 10, 3}, {65722, 25037, 19, 3}, {65742, 25037, 21, 3},
-    {65764, 25037, 22, 3}, {65787, 25037, 25, 3}, {65813, 25040, 14, 3}, {65828, 25040, 15, 3}, {65844, 25043, 8, 3},
-    {65853, 25043, 26, 3}, {65880, 25043, 25, 3}, {65906, 25043, 19, 3}, {65926, 25043, 17, 3}, {65944, 25046, 24, 3},
-    {65969, 25046, 33, 3}, {66003, 25046, 24, 3}, {66048, 25046, 26, 3}, {66075, 25049, 17, 3}, {66093, 25049, 25, 3},
-    {66119, 25049, 18, 3}, {66138, 25049, 28, 3}, {66167, 25052, 15, 3}, {66183, 25052, 23, 3}, {66207, 25052, 22, 3},
-    {66230, 25052, 16, 3}, {66247, 25052, 28, 3}, {66276, 25055, 21, 3}, {66298, 25055, 30, 3}, {66329, 25055, 21, 3},
-    {66351, 25055, 23, 3}, {66375, 25055, 13, 3}, {66389, 25055, 37, 3}, {66427, 25058, 19, 3}, {66447, 25058, 27, 3},
-    {66475, 25058, 19, 3}, {66495, 25058, 20, 3}, {66516, 25061, 17, 4}, {66534, 25061, 21, 4}, {66560, 25061, 10, 4},
-    {66571, 25061, 21, 4}, {66593, 25061, 30, 4}, {66624, 25065, 14, 3}, {66639, 25065, 22, 3}, {66662, 25065, 21, 3},
-    {66684, 25065, 15, 3}, {66700, 25065, 27, 3}, {66728, 25068, 22, 3}, {66751, 25068, 31, 3}, {66783, 25068, 31, 3},
-    {66815, 25068, 24, 3}, {66840, 25068, 16, 3}, {66857, 25068, 14, 3}, {66872, 25068, 36, 3}, {66909, 25071, 17, 3},
-    {66927, 25071, 25, 3}, {66953, 25071, 24, 3}, {66978, 25071, 18, 3}, {66997, 25071, 30, 3}, {67028, 25074, 16, 3},
-    {67072, 25074, 25, 3}, {67098, 25074, 24, 3}, {67123, 25074, 18, 3}, {67142, 25074, 18, 3}, {67161, 25074, 19, 3},
-    {67181, 25074, 11, 3}, {67193, 25077, 22, 4}, {67216, 25077, 28, 4}, {67245, 25077, 11, 4}, {67257, 25081, 28, 3},
-    {67286, 25081, 37, 3}, {67324, 25081, 30, 3}, {67355, 25088, 22, 3}, {67378, 25088, 48, 3}, {67427, 25088, 41, 3},
-    {67469, 25091, 19, 3}, {67489, 25091, 46, 3}, {67536, 25091, 39, 3}, {67584, 25094, 24, 3}, {67609, 25094, 33, 3},
-    {67643, 25094, 26, 3}, {67670, 25097, 17, 3}, {67688, 25097, 25, 3}, {67714, 25097, 18, 3}, {67733, 25100, 11, 3},
-    {67745, 25100, 19, 3}, {67765, 25100, 18, 3}, {67784, 25100, 12, 3}, {67797, 25103, 19, 3}, {67817, 25103, 27, 3},
-    {67845, 25103, 20, 3}, {67866, 25106, 10, 3}, {67877, 25106, 18, 3}, {67896, 25109, 13, 3}, {67910, 25109, 37, 3},
-    {67948, 25109, 30, 3}, {67979, 25112, 22, 3}, {68002, 25112, 40, 3}, {68043, 25112, 33, 3}, {68096, 25115, 16, 3},
-    {68113, 25115, 25, 3}, {68139, 25115, 24, 3}, {68164, 25115, 18, 3}, {68183, 25118, 17, 3}, {68201, 25118, 19, 3},
-    {68221, 25118, 12, 3}, {68234, 25121, 10, 3}, {68245, 25121, 30, 3}, {68276, 25121, 23, 3}, {68300, 25124, 22, 3},
-    {68323, 25124, 36, 3}, {68360, 25124, 29, 3}, {68390, 25127, 14, 3}, {68405, 25127, 22, 3}, {68428, 25127, 15, 3},
-    {68444, 25130, 11, 3}, {68456, 25130, 19, 3}, {68476, 25130, 12, 3}, {68489, 25133, 26, 3}, {68516, 25133, 53, 3},
-    {68608, 25133, 46, 3}, {68655, 25136, 16, 3}, {68672, 25136, 26, 3}, {68699, 25136, 19, 3}, {68719, 25139, 9, 3},
-    {68729, 25139, 17, 3}, {68747, 25139, 10, 3}, {68758, 25142, 7, 3}, {68766, 25142, 34, 3}, {68801, 25142, 27, 3},
-    {68829, 25145, 27, 3}, {68857, 25145, 36, 3}, {68894, 25145, 29, 3}, {68924, 25148, 17, 3}, {68942, 25148, 25, 3},
-    {68968, 25148, 18, 3}, {68987, 25151, 21, 3}, {69009, 25151, 30, 3}, {69040, 25151, 23, 3}, {69064, 25154, 23, 3},
-    {69120, 25154, 31, 3}, {69152, 25154, 24, 3}, {69177, 25157, 12, 3}, {69190, 25157, 27, 3}, {69218, 25157, 20, 3},
-    {69239, 25160, 23, 3}, {69263, 25160, 42, 3}, {69306, 25160, 35, 3}, {69342, 25163, 21, 3}, {69364, 25163, 38, 3},
-    {69403, 25163, 31, 3}, {69435, 25166, 17, 3}, {69453, 25166, 34, 3}, {69488, 25166, 27, 3}, {69516, 25169, 21, 3},
-    {69538, 25169, 29, 3}, {69568, 25169, 22, 3}, {69591, 25172, 11, 9}, {69603, 25172, 11, 9}, {69632, 25172, 21, 9},
-    {69654, 25181, 11, 9}, {69666, 25181, 11, 9}, {69678, 25181, 6, 9}, {69685, 25181, 14, 9}, {69700, 25181, 21, 9},
-    {69722, 25181, 7, 9}, {69730, 25190, 11, 9}, {69742, 25190, 11, 9}, {69754, 25190, 21, 9}, {69776, 25199, 11, 9},
-    {69788, 25199, 11, 9}, {69800, 25199, 21, 9}, {69822, 25208, 12, 9}, {69835, 25208, 11, 9}, {69847, 25208, 6, 9},
-    {69854, 25208, 20, 9}, {69875, 25208, 11, 9}, {69887, 25208, 16, 9}, {69904, 25217, 11, 9}, {69916, 25217, 7, 9},
-    {69924, 25217, 21, 9}, {69946, 25226, 11, 9}, {69958, 25235, 18, 9}, {69977, 25235, 16, 9}, {69994, 25235, 15, 9},
-    {70010, 25235, 21, 9}, {70032, 25235, 14, 9}, {70047, 25244, 11, 9}, {70059, 25244, 11, 9}, {70071, 25244, 21, 9},
-    {70093, 25253, 11, 9}, {70105, 25253, 11, 9}, {70117, 25253, 6, 9}, {70124, 25253, 14, 9}, {70144, 25253, 21, 9},
-    {70166, 25253, 7, 9}, {70174, 25262, 11, 9}, {70186, 25262, 11, 9}, {70198, 25262, 21, 9}, {70220, 25271, 11, 9},
-    {70232, 25271, 11, 9}, {70244, 25271, 21, 9}, {70266, 25280, 12, 9}, {70279, 25280, 11, 9}, {70291, 25280, 6, 9},
-    {70298, 25280, 20, 9}, {70319, 25280, 11, 9}, {70331, 25280, 16, 9}, {70348, 25289, 11, 9}, {70360, 25289, 7, 9},
-    {70368, 25289, 21, 9}, {70390, 25298, 11, 9}, {70402, 25307, 18, 9}, {70421, 25307, 16, 9}, {70438, 25307, 15, 9},
-    {70454, 25307, 21, 9}, {70476, 25307, 14, 9}, {70491, 25316, 11, 9}, {70503, 25316, 11, 9}, {70515, 25316, 21, 9},
-    {70537, 25325, 11, 9}, {70549, 25325, 11, 9}, {70561, 25325, 6, 9}, {70568, 25325, 14, 9}, {70583, 25325, 21, 9},
-    {70605, 25325, 7, 9}, {70613, 25334, 11, 9}, {70625, 25334, 11, 9}, {70656, 25334, 21, 9}, {70678, 25343, 11, 9},
-    {70690, 25343, 11, 9}, {70702, 25343, 21, 9}, {70724, 25352, 12, 9}, {70737, 25352, 11, 9}, {70749, 25352, 6, 9},
-    {70756, 25352, 20, 9}, {70777, 25352, 11, 9}, {70789, 25352, 16, 9}, {70806, 25361, 11, 9}, {70818, 25361, 7, 9},
-    {70826, 25361, 21, 9}, {70848, 25370, 11, 9}, {70860, 25379, 18, 9}, {70879, 25379, 16, 9}, {70896, 25379, 15, 9},
-    {70912, 25379, 21, 9}, {70934, 25379, 14, 9}, {70949, 25388, 7, 9}, {70957, 25388, 6, 9}, {70964, 25388, 6, 9},
-    {70971, 25388, 8, 9}, {70980, 25388, 7, 9}, {70988, 25397, 7, 9}, {70996, 25397, 6, 9}, {71003, 25397, 6, 9},
-    {71010, 25397, 8, 9}, {71019, 25397, 7, 9}, {71027, 25406, 7, 9}, {71035, 25406, 6, 9}, {71042, 25406, 6, 9},
-    {71049, 25406, 8, 9}, {71058, 25406, 7, 9}, {71066, 25415, 7, 9}, {71074, 25415, 6, 9}, {71081, 25415, 6, 9},
-    {71088, 25415, 8, 9}, {71097, 25415, 7, 9}, {71105, 25424, 11, 9}, {71117, 25424, 10, 9}, {71128, 25424, 10, 9},
-    {71139, 25424, 12, 9}, {71168, 25424, 13, 9}, {71182, 25424, 10, 9}, {71193, 25433, 11, 9}, {71205, 25433, 10, 9},
-    {71216, 25433, 10, 9}, {71227, 25433, 12, 9}, {71240, 25433, 13, 9}, {71254, 25433, 10, 9}, {71265, 25442, 8, 9},
-    {71274, 25442, 8, 9}, {71283, 25442, 8, 9}, {71292, 25451, 8, 9}, {71301, 25451, 8, 9}, {71310, 25451, 8, 9},
-    {71319, 25460, 8, 9}, {71328, 25460, 8, 9}, {71337, 25460, 8, 9}, {71346, 25469, 8, 9}, {71355, 25469, 8, 9},
-    {71364, 25469, 8, 9}, {71373, 25478, 8, 9}, {71382, 25478, 8, 9}, {71391, 25478, 9, 9}, {71401, 25478, 12, 9},
-    {71414, 25478, 9, 9}, {71424, 25487, 8, 9}, {71433, 25487, 8, 9}, {71442, 25487, 9, 9}, {71452, 25487, 12, 9},
-    {71465, 25487, 9, 9}, {71475, 25496, 13, 9}, {71489, 25496, 12, 9}, {71502, 25505, 13, 9}, {71516, 25505, 12, 9},
-    {71529, 25514, 13, 9}, {71543, 25514, 12, 9}, {71556, 25523, 13, 9}, {71570, 25523, 12, 9}, {71583, 25532, 12, 9},
-    {71596, 25541, 15, 9}, {71612, 25541, 12, 9}, {71625, 25550, 7, 9}, {71633, 25550, 7, 9}, {71641, 25550, 8, 9},
-    {71650, 25559, 7, 9}, {71658, 25559, 7, 9}, {71666, 25559, 8, 9}, {71680, 25568, 15, 9}, {71696, 25568, 12, 9},
-    {71709, 25568, 10, 9}, {71720, 25568, 18, 9}, {71739, 25568, 13, 9}, {71753, 25568, 26, 9}, {71780, 25577, 15, 9},
-    {71796, 25577, 12, 9}, {71809, 25577, 10, 9}, {71820, 25577, 18, 9}, {71839, 25577, 16, 9}, {71856, 25577, 13, 9},
-    {71870, 25577, 26, 9}, {71897, 25586, 18, 9}, {71916, 25586, 15, 9}, {71932, 25586, 12, 9}, {71945, 25586, 10, 9},
-    {71956, 25586, 13, 9}, {71970, 25600, 18, 9}, {71989, 25600, 15, 9}, {72005, 25600, 12, 9}, {72018, 25600, 10, 9},
-    {72029, 25600, 13, 9}, {72043, 25609, 20, 9}, {72064, 25609, 17, 9}, {72082, 25609, 12, 9}, {72095, 25609, 15, 9},
-    {72111, 25618, 20, 9}, {72132, 25618, 17, 9}, {72150, 25618, 12, 9}, {72163, 25618, 15, 9}, {72192, 25627, 20, 9},
-    {72213, 25627, 17, 9}, {72231, 25627, 12, 9}, {72244, 25627, 15, 9}, {72260, 25636, 20, 9}, {72281, 25636, 17, 9},
-    {72299, 25636, 12, 9}, {72312, 25636, 15, 9}, {72328, 25645, 19, 9}, {72348, 25645, 14, 9}, {72363, 25645, 17, 9},
-    {72381, 25654, 19, 9}, {72401, 25654, 14, 9}, {72416, 25654, 17, 9}, {72434, 25663, 19, 9}, {72454, 25663, 14, 9},
-    {72469, 25663, 17, 9}, {72487, 25672, 19, 9}, {72507, 25672, 14, 9}, {72522, 25672, 17, 9}, {72540, 25681, 34, 9},
-    {72575, 25681, 12, 9}, {72588, 25681, 15, 9}, {72604, 25690, 34, 9}, {72639, 25690, 12, 9}, {72652, 25690, 15, 9},
-    {72704, 25699, 34, 9}, {72739, 25699, 12, 9}, {72752, 25699, 15, 9}, {72768, 25708, 34, 9}, {72803, 25708, 12, 9},
-    {72816, 25708, 15, 9}, {72832, 25717, 9, 9}, {72842, 25717, 7, 9}, {72850, 25726, 9, 9}, {72860, 25726, 7, 9},
-    {72868, 25735, 9, 9}, {72878, 25735, 7, 9}, {72886, 25744, 17, 9}, {72904, 25753, 17, 9}, {72922, 25762, 17, 9},
-    {72940, 25771, 17, 9}, {72958, 25780, 17, 9}, {72976, 25789, 17, 9}, {72994, 25798, 18, 9}, {73013, 25807, 18, 9},
-    {73032, 25816, 18, 9}, {73051, 25825, 18, 9}, {73070, 25834, 18, 9}, {73089, 25843, 18, 9}, {73108, 25852, 26, 9},
-    {73135, 25861, 26, 9}, {73162, 25870, 26, 9}, {73216, 25879, 29, 9}, {73246, 25888, 29, 9}, {73276, 25897, 29, 9},
-    {73306, 25906, 29, 9}, {73336, 25915, 29, 9}, {73366, 25924, 29, 9}, {73396, 25933, 32, 9}, {73429, 25942, 32, 9},
-    {73462, 25951, 32, 9}, {73495, 25960, 32, 9}, {73528, 25969, 32, 9}, {73561, 25978, 32, 9}, {73594, 25987, 10, 9},
-    {73605, 25987, 8, 9}, {73614, 25996, 10, 9}, {73625, 25996, 8, 9}, {73634, 26005, 11, 9}, {73646, 26005, 9, 9},
-    {73656, 26014, 8, 7}, {73665, 26014, 29, 7}, {73695, 26021, 9, 8}, {73728, 26021, 30, 8}, {73759, 26029, 10, 9},
-    {73770, 26029, 18, 9}, {73789, 26038, 9, 9}, {73799, 26038, 17, 9}, {73817, 26047, 15, 9}, {73833, 26047, 23, 9},
-    {73857, 26056, 17, 9}, {73875, 26056, 26, 9}, {73902, 26065, 12, 9}, {73915, 26065, 20, 9}, {73936, 26074, 13, 9},
-    {73950, 26074, 22, 9}, {73973, 26083, 15, 9}, {73989, 26083, 24, 9}, {74014, 26092, 9, 9}, {74024, 26092, 16, 9},
-    {74041, 26101, 10, 8}, {74052, 26101, 18, 8}, {74071, 26112, 14, 9}, {74086, 26112, 29, 9}, {74116, 26121, 12, 10},
-    {74129, 26131, 8, 10}, {74138, 26141, 10, 10}, {74149, 26151, 7, 10}, {74157, 26161, 6, 10}, {74164, 26171, 12, 10},
-    {74177, 26181, 11, 10}, {74189, 26191, 16, 10}, {74206, 26201, 8, 10}, {74215, 26211, 10, 10},
-    {74240, 26221, 14, 10}, {74255, 26231, 18, 10}, {74274, 26241, 10, 10}, {74285, 26251, 9, 11},
-    {74295, 26262, 10, 11}, {74306, 26273, 14, 10}, {74321, 26283, 11, 10}, {74333, 26293, 22, 11},
-    {74356, 26304, 24, 10}, {74381, 26314, 28, 10}, {74410, 26324, 31, 10}, {74442, 26334, 32, 10},
-    {74475, 26344, 40, 10}, {74516, 26354, 23, 10}, {74540, 26364, 24, 10}, {74565, 26374, 29, 10},
-    {74595, 26384, 28, 10}, {74624, 26394, 24, 10}, {74649, 26404, 5, 9}, {74655, 26404, 28, 9}, {74684, 26413, 19, 7},
-    {74704, 26413, 19, 7}, {74752, 26420, 26, 12}, {74779, 26420, 26, 12}, {74806, 26432, 27, 1}, {74834, 26432, 27, 1},
-    {74862, 26433, 6, 2}, {74869, 26433, 30, 2}, {74900, 26435, 9, 3}, {74910, 26435, 13, 3}, {74924, 26438, 13, 4},
-    {74938, 26442, 14, 4}, {74953, 26446, 13, 4}, {74967, 26450, 12, 4}, {74980, 26454, 8, 4}, {74989, 26458, 12, 4},
-    {75002, 26462, 20, 4}, {75023, 26466, 14, 4}, {75038, 26470, 20, 4}, {75059, 26474, 23, 4}, {75083, 26478, 23, 4},
-    {75107, 26482, 17, 4}, {75125, 26486, 18, 4}, {75144, 26490, 12, 4}, {75157, 26494, 14, 4}, {75172, 26498, 16, 4},
-    {75189, 26502, 16, 4}, {75206, 26506, 17, 4}, {75224, 26510, 18, 4}, {75264, 26514, 18, 4}, {75283, 26518, 17, 4},
-    {75301, 26522, 20, 4}, {75322, 26526, 19, 4}, {75342, 26530, 20, 4}, {75363, 26534, 19, 4}, {75383, 26538, 15, 4},
-    {75399, 26542, 16, 4}, {75416, 26546, 16, 4}, {75433, 26550, 18, 4}, {75452, 26554, 19, 4}, {75472, 26558, 19, 4},
-    {75492, 26562, 16, 4}, {75509, 26566, 17, 4}, {75527, 26570, 17, 4}, {75545, 26574, 19, 4}, {75565, 26578, 20, 4},
-    {75586, 26582, 20, 4}, {75607, 26586, 18, 4}, {75626, 26590, 17, 4}, {75644, 26594, 23, 4}, {75668, 26598, 23, 4},
-    {75692, 26602, 21, 4}, {75714, 26606, 21, 4}, {75736, 26610, 19, 4}, {75776, 26614, 17, 4}, {75794, 26624, 16, 4},
-    {75811, 26628, 17, 4}, {75829, 26632, 19, 4}, {75849, 26636, 14, 4}, {75864, 26640, 21, 4}, {75886, 26644, 19, 4},
-    {75906, 26648, 16, 4}, {75923, 26652, 16, 4}, {75940, 26656, 17, 4}, {75958, 26660, 18, 4}, {75977, 26664, 17, 4},
-    {75995, 26668, 18, 4}, {76014, 26672, 23, 4}, {76038, 26676, 19, 4}, {76058, 26680, 19, 4}, {76078, 26684, 20, 4},
-    {76099, 26688, 15, 4}, {76115, 26692, 16, 4}, {76132, 26696, 15, 4}, {76148, 26700, 18, 4}, {76167, 26704, 19, 4},
-    {76187, 26708, 18, 4}, {76206, 26712, 16, 4}, {76223, 26716, 17, 4}, {76241, 26720, 16, 4}, {76258, 26724, 19, 4},
-    {76288, 26728, 20, 4}, {76309, 26732, 19, 4}, {76329, 26736, 22, 4}, {76352, 26740, 22, 4}, {76375, 26744, 19, 4},
-    {76395, 26748, 16, 4}, {76412, 26752, 17, 4}, {76430, 26756, 16, 4}, {76447, 26760, 24, 4}, {76472, 26764, 27, 4},
-    {76500, 26768, 24, 4}, {76525, 26772, 10, 3}, {76536, 26772, 18, 3}, {76555, 26775, 15, 4}, {76571, 26775, 18, 4},
-    {76590, 26779, 13, 4}, {76604, 26779, 23, 4}, {76628, 26783, 16, 4}, {76645, 26787, 13, 4}, {76659, 26791, 13, 4},
-    {76673, 26795, 9, 4}, {76683, 26795, 23, 4}, {76707, 26799, 8, 3}, {76716, 26802, 12, 4}, {76729, 26806, 16, 5},
-    {76746, 26811, 13, 5}, {76760, 26816, 15, 4}, {76800, 26816, 28, 4}, {76829, 26820, 17, 4}, {76847, 26824, 17, 5},
-    {76865, 26829, 21, 5}, {76887, 26834, 14, 4}, {76902, 26834, 19, 4}, {76922, 26838, 18, 5}, {76941, 26843, 19, 6},
-    {76961, 26843, 19, 6}, {76981, 26849, 17, 5}, {76999, 26854, 13, 6}, {77013, 26854, 17, 6}, {77031, 26860, 18, 6},
-    {77050, 26860, 17, 6}, {77068, 26866, 18, 5}, {77087, 26871, 17, 6}, {77105, 26871, 22, 6}, {77128, 26877, 17, 6},
-    {77146, 26877, 23, 6}, {77170, 26883, 10, 3}, {77181, 26886, 15, 4}, {77197, 26890, 11, 3}, {77209, 26890, 22, 3},
-    {77232, 26893, 18, 4}, {77251, 26897, 16, 4}, {77268, 26901, 17, 4}, {77286, 26905, 21, 4}, {77312, 26909, 17, 4},
-    {77330, 26913, 14, 4}, {77345, 26917, 16, 4}, {77362, 26921, 24, 4}, {77387, 26925, 23, 4}, {77411, 26929, 18, 4},
-    {77430, 26933, 17, 4}, {77448, 26937, 26, 4}, {77475, 26941, 9, 3}, {77485, 26944, 18, 4}, {77504, 26948, 14, 4},
-    {77519, 26952, 20, 4}, {77540, 26956, 16, 4}, {77557, 26960, 25, 4}, {77583, 26964, 13, 4}, {77597, 26968, 15, 5},
-    {77613, 26973, 3, 2}, {77617, 26975, 7, 3}, {77625, 26978, 22, 5}, {77648, 26983, 22, 5}, {77671, 26988, 22, 5},
-    {77694, 26993, 22, 5}, {77717, 26998, 22, 5}, {77740, 27003, 22, 5}, {77763, 27008, 22, 5}, {77786, 27013, 22, 5},
-    {77824, 27018, 23, 5}, {77848, 27023, 23, 5}, {77872, 27028, 23, 5}, {77896, 27033, 3, 3}, {77900, 27033, 23, 3},
-    {77924, 27036, 34, 4}, {77959, 27040, 16, 5}, {77976, 27045, 9, 5}, {77986, 27050, 11, 5}, {77998, 27055, 18, 5},
-    {78017, 27060, 22, 5}, {78040, 27065, 19, 5}, {78060, 27070, 22, 5}, {78083, 27075, 19, 5}, {78103, 27080, 12, 5},
-    {78116, 27085, 17, 5}, {78134, 27090, 26, 5}, {78161, 27095, 23, 5}, {78185, 27100, 23, 5}, {78209, 27105, 33, 5},
-    {78243, 27105, 28, 5}, {78272, 27110, 24, 5}, {78297, 27110, 19, 5}, {78336, 27115, 35, 5}, {78372, 27115, 34, 5},
-    {78407, 27120, 31, 5}, {78439, 27120, 30, 5}, {78470, 27125, 27, 5}, {78498, 27125, 25, 5}, {78524, 27136, 33, 4},
-    {78558, 27140, 16, 5}, {78575, 27145, 34, 4}, {78610, 27149, 18, 5}, {78629, 27154, 17, 4}, {78647, 27154, 40, 4},
-    {78688, 27158, 10, 5}, {78699, 27158, 30, 5}, {78730, 27163, 30, 6}, {78761, 27163, 32, 6}, {78794, 27169, 29, 6},
-    {78848, 27169, 28, 6}, {78877, 27175, 24, 6}, {78902, 27175, 30, 6}, {78933, 27181, 20, 6}, {78954, 27181, 18, 6},
-    {78973, 27187, 22, 6}, {78996, 27187, 20, 6}, {79017, 27193, 21, 6}, {79039, 27193, 26, 6}, {79066, 27199, 28, 6},
-    {79095, 27199, 26, 6}, {79122, 27205, 31, 7}, {79154, 27205, 32, 7}, {79187, 27212, 31, 7}, {79219, 27212, 32, 7},
-    {79252, 27219, 31, 7}, {79284, 27219, 32, 7}, {79317, 27226, 27, 7}, {79360, 27226, 36, 7}, {79397, 27233, 25, 6},
-    {79423, 27233, 23, 6}, {79447, 27239, 46, 4}, {79494, 27243, 20, 5}, {79515, 27248, 18, 5}, {79534, 27253, 36, 5},
-    {79571, 27258, 40, 5}, {79612, 27263, 41, 5}, {79654, 27268, 31, 5}, {79686, 27273, 36, 4}, {79723, 27277, 27, 5},
-    {79751, 27282, 35, 5}, {79787, 27282, 30, 5}, {79818, 27282, 20, 5}, {79872, 27287, 36, 5}, {79909, 27292, 29, 5},
-    {79939, 27292, 24, 5}, {79964, 27297, 40, 5}, {80005, 27297, 36, 5}, {80042, 27302, 34, 5}, {80077, 27302, 30, 5},
-    {80108, 27307, 45, 5}, {80154, 27307, 41, 5}, {80196, 27312, 39, 5}, {80236, 27312, 35, 5}, {80272, 27317, 6, 4},
-    {80279, 27317, 44, 4}, {80324, 27321, 35, 5}, {80384, 27321, 43, 5}, {80428, 27326, 11, 4}, {80440, 27326, 39, 4},
-    {80480, 27330, 23, 5}, {80504, 27330, 20, 5}, {80525, 27335, 19, 5}, {80545, 27335, 16, 5}, {80562, 27340, 24, 5},
-    {80587, 27340, 21, 5}, {80609, 27345, 12, 4}, {80622, 27345, 32, 4}, {80655, 27349, 27, 5}, {80683, 27349, 19, 5},
-    {80703, 27354, 31, 6}, {80735, 27354, 31, 6}, {80767, 27360, 32, 6}, {80800, 27360, 40, 6}, {80841, 27366, 32, 6},
-    {80896, 27366, 42, 6}, {80939, 27372, 32, 6}, {80972, 27372, 20, 6}, {80993, 27378, 32, 6}, {81026, 27378, 20, 6},
-    {81047, 27384, 10, 4}, {81058, 27384, 30, 4}, {81089, 27388, 9, 5}, {81099, 27388, 21, 5}, {81121, 27393, 17, 6},
-    {81139, 27393, 13, 6}, {81153, 27399, 31, 6}, {81185, 27399, 28, 6}, {81214, 27405, 24, 6}, {81239, 27405, 21, 6},
-    {81261, 27411, 24, 6}, {81286, 27411, 21, 6}, {81308, 27417, 32, 6}, {81341, 27417, 31, 6}, {81373, 27423, 19, 6},
-    {81408, 27423, 16, 6}, {81425, 27429, 22, 6}, {81448, 27429, 20, 6}, {81469, 27435, 20, 6}, {81490, 27435, 17, 6},
-    {81508, 27441, 13, 6}, {81522, 27441, 23, 6}, {81546, 27447, 13, 6}, {81560, 27447, 31, 6}, {81592, 27453, 38, 6},
-    {81631, 27453, 36, 6}, {81668, 27459, 47, 6}, {81716, 27459, 46, 6}, {81763, 27465, 42, 6}, {81806, 27465, 41, 6},
-    {81848, 27471, 38, 6}, {81920, 27471, 36, 6}, {81957, 27477, 13, 6}, {81971, 27477, 35, 6}, {82007, 27483, 16, 6},
-    {82024, 27483, 22, 6}, {82047, 27489, 13, 6}, {82061, 27489, 33, 6}, {82095, 27495, 20, 6}, {82116, 27495, 16, 6},
-    {82133, 27501, 19, 6}, {82153, 27501, 15, 6}, {82169, 27507, 23, 6}, {82193, 27507, 36, 6}, {82230, 27513, 19, 6},
-    {82250, 27513, 16, 6}, {82267, 27519, 15, 5}, {82283, 27519, 20, 5}, {82304, 27524, 31, 6}, {82336, 27524, 36, 6},
-    {82373, 27530, 24, 6}, {82398, 27530, 29, 6}, {82432, 27536, 26, 6}, {82459, 27536, 31, 6}, {82491, 27542, 25, 6},
-    {82517, 27542, 30, 6}, {82548, 27548, 41, 6}, {82590, 27548, 47, 6}, {82638, 27554, 28, 6}, {82667, 27554, 33, 6},
-    {82701, 27560, 25, 6}, {82727, 27560, 30, 6}, {82758, 27566, 32, 6}, {82791, 27566, 37, 6}, {82829, 27572, 25, 6},
-    {82855, 27572, 30, 6}, {82886, 27578, 26, 6}, {82944, 27578, 31, 6}, {82976, 27584, 26, 6}, {83003, 27584, 31, 6},
-    {83035, 27590, 28, 6}, {83064, 27590, 33, 6}, {83098, 27596, 28, 6}, {83127, 27596, 33, 6}, {83161, 27602, 36, 6},
-    {83198, 27602, 42, 6}, {83241, 27608, 24, 6}, {83266, 27608, 29, 6}, {83296, 27614, 25, 6}, {83322, 27614, 30, 6},
-    {83353, 27620, 28, 6}, {83382, 27620, 33, 6}, {83416, 27626, 26, 6}, {83456, 27626, 31, 6}, {83488, 27632, 26, 6},
-    {83515, 27632, 31, 6}, {83547, 27638, 25, 6}, {83573, 27638, 30, 6}, {83604, 27648, 30, 6}, {83635, 27648, 35, 6},
-    {83671, 27654, 35, 6}, {83707, 27654, 41, 6}, {83749, 27660, 36, 6}, {83786, 27660, 42, 6}, {83829, 27666, 29, 6},
-    {83859, 27666, 34, 6}, {83894, 27672, 25, 6}, {83920, 27672, 30, 6}, {83968, 27678, 33, 6}, {84002, 27678, 40, 6},
-    {84043, 27684, 20, 6}, {84064, 27684, 25, 6}, {84090, 27690, 18, 6}, {84109, 27690, 23, 6}, {84133, 27696, 21, 6},
-    {84155, 27696, 26, 6}, {84182, 27702, 30, 6}, {84213, 27702, 35, 6}, {84249, 27708, 14, 6}, {84264, 27708, 40, 6},
-    {84305, 27714, 39, 6}, {84345, 27714, 45, 6}, {84391, 27720, 39, 6}, {84431, 27720, 45, 6}, {84480, 27726, 48, 6},
-    {84529, 27726, 55, 6}, {84585, 27732, 43, 6}, {84629, 27732, 50, 6}, {84680, 27738, 14, 6}, {84695, 27738, 43, 6},
-    {84739, 27744, 20, 6}, {84760, 27744, 25, 6}, {84786, 27750, 15, 5}, {84802, 27750, 20, 5}, {84823, 27755, 16, 3},
-    {84840, 27758, 20, 4}, {84861, 27762, 19, 5}, {84881, 27762, 13, 5}, {84895, 27762, 19, 5}, {84915, 27767, 21, 5},
-    {84937, 27772, 16, 6}, {84954, 27772, 17, 6}, {84992, 27778, 22, 6}, {85015, 27778, 23, 6}, {85039, 27784, 20, 6},
-    {85060, 27784, 21, 6}, {85082, 27790, 31, 5}, {85114, 27790, 34, 5}, {85149, 27795, 25, 5}, {85175, 27800, 12, 6},
-    {85188, 27806, 14, 5}, {85203, 27811, 17, 6}, {85221, 27817, 28, 6}, {85250, 27823, 17, 6}, {85268, 27829, 26, 6},
-    {85295, 27835, 25, 5}, {85321, 27840, 16, 5}, {85338, 27845, 22, 4}, {85361, 27849, 28, 5}, {85390, 27849, 26, 5},
-    {85417, 27854, 19, 4}, {85437, 27858, 26, 4}, {85464, 27862, 0, 0},
+    {0, 0, 11, 1}, {12, 1, 18, 7}, {31, 8, 16, 8}, {48, 8, 16, 8}, {65, 16, 16, 8}, {82, 16, 16, 8}, {99, 24, 16, 8},
+    {116, 24, 16, 8}, {133, 32, 16, 8}, {150, 32, 16, 8}, {167, 40, 16, 8}, {184, 40, 16, 8}, {201, 48, 16, 8},
+    {218, 48, 16, 8}, {235, 56, 17, 8}, {253, 56, 17, 8}, {271, 64, 16, 8}, {288, 64, 16, 8}, {305, 72, 16, 8},
+    {322, 72, 16, 8}, {339, 80, 16, 8}, {356, 80, 16, 8}, {373, 88, 16, 8}, {390, 88, 16, 8}, {407, 96, 16, 8},
+    {424, 96, 16, 8}, {441, 104, 16, 8}, {458, 104, 16, 8}, {475, 112, 17, 8}, {512, 112, 17, 8}, {530, 120, 16, 8},
+    {547, 120, 16, 8}, {564, 128, 16, 8}, {581, 128, 16, 8}, {598, 136, 16, 8}, {615, 136, 16, 8}, {632, 144, 16, 8},
+    {649, 144, 16, 8}, {666, 152, 16, 8}, {683, 152, 16, 8}, {700, 160, 16, 8}, {717, 160, 16, 8}, {734, 168, 17, 8},
+    {752, 168, 17, 8}, {770, 176, 29, 1}, {800, 177, 4, 2}, {805, 179, 29, 4}, {835, 183, 14, 5}, {850, 188, 18, 6},
+    {869, 194, 28, 6}, {898, 200, 33, 6}, {932, 206, 28, 6}, {961, 212, 18, 6}, {980, 218, 14, 4}, {995, 222, 7, 5},
+    {1024, 227, 24, 6}, {1049, 227, 12, 6}, {1062, 227, 17, 6}, {1080, 233, 24, 6}, {1105, 233, 12, 6},
+    {1118, 233, 17, 6}, {1136, 239, 29, 6}, {1166, 239, 17, 6}, {1184, 239, 22, 6}, {1207, 245, 18, 6},
+    {1226, 245, 6, 6}, {1233, 245, 13, 6}, {1247, 251, 17, 6}, {1265, 251, 5, 6}, {1271, 257, 18, 6}, {1290, 257, 6, 6},
+    {1297, 263, 17, 7}, {1315, 270, 17, 7}, {1333, 277, 15, 7}, {1349, 284, 27, 6}, {1377, 284, 15, 6},
+    {1393, 290, 7, 6}, {1401, 296, 4, 6}, {1406, 302, 4, 6}, {1411, 308, 4, 6}, {1416, 314, 5, 5}, {1422, 319, 16, 6},
+    {1439, 325, 22, 7}, {1462, 332, 24, 7}, {1487, 339, 21, 7}, {1509, 346, 21, 7}, {1536, 353, 15, 7},
+    {1552, 360, 19, 7}, {1572, 367, 19, 7}, {1592, 374, 19, 7}, {1612, 381, 19, 7}, {1632, 388, 24, 6},
+    {1657, 394, 12, 7}, {1670, 401, 11, 7}, {1682, 401, 5, 7}, {1688, 408, 9, 7}, {1698, 408, 5, 7}, {1704, 415, 16, 7},
+    {1721, 415, 10, 7}, {1732, 422, 14, 7}, {1747, 422, 10, 7}, {1758, 429, 7, 7}, {1766, 429, 7, 7}, {1774, 436, 6, 7},
+    {1781, 443, 31, 7}, {1813, 450, 29, 7}, {1843, 457, 36, 7}, {1880, 464, 34, 7}, {1915, 471, 31, 7},
+    {1947, 478, 4, 1}, {1952, 479, 3, 3}, {1956, 482, 3, 7}, {1960, 489, 5, 8}, {1966, 497, 18, 9}, {1985, 512, 7, 10},
+    {1993, 512, 7, 10}, {2001, 522, 19, 10}, {2021, 532, 18, 10}, {2048, 532, 16, 10}, {2065, 532, 16, 10},
+    {2082, 542, 20, 10}, {2103, 552, 3, 10}, {2107, 562, 20, 9}, {2128, 571, 15, 10}, {2144, 581, 25, 10},
+    {2170, 591, 16, 9}, {2187, 600, 14, 10}, {2202, 610, 14, 10}, {2217, 620, 11, 9}, {2229, 629, 7, 6},
+    {2237, 635, 17, 7}, {2255, 642, 22, 8}, {2278, 650, 19, 9}, {2298, 659, 11, 7}, {2310, 666, 17, 8},
+    {2328, 674, 21, 9}, {2350, 683, 27, 9}, {2378, 692, 15, 9}, {2394, 701, 11, 9}, {2406, 710, 24, 9},
+    {2431, 719, 19, 9}, {2451, 728, 19, 10}, {2471, 738, 21, 11}, {2493, 749, 25, 11}, {2519, 760, 32, 11},
+    {2560, 771, 26, 11}, {2587, 782, 14, 8}, {2602, 790, 32, 9}, {2635, 799, 25, 9}, {2661, 808, 25, 9},
+    {2687, 817, 23, 9}, {2711, 826, 25, 9}, {2737, 835, 20, 9}, {2758, 844, 20, 9}, {2779, 853, 19, 8},
+    {2799, 861, 23, 9}, {2823, 870, 16, 9}, {2840, 879, 14, 9}, {2855, 888, 14, 9}, {2870, 897, 22, 9},
+    {2893, 906, 20, 9}, {2914, 915, 16, 9}, {2931, 924, 16, 10}, {2948, 934, 14, 11}, {2963, 945, 20, 11},
+    {2984, 956, 13, 11}, {2998, 967, 15, 11}, {3014, 978, 19, 9}, {3034, 987, 19, 10}, {3072, 997, 21, 11},
+    {3094, 1008, 14, 11}, {3109, 1024, 17, 11}, {3127, 1035, 23, 11}, {3151, 1046, 18, 11}, {3170, 1057, 17, 11},
+    {3188, 1068, 21, 8}, {3210, 1076, 12, 9}, {3223, 1085, 12, 10}, {3236, 1095, 15, 11}, {3252, 1106, 19, 11},
+    {3272, 1117, 12, 11}, {3285, 1128, 23, 11}, {3309, 1139, 16, 11}, {3326, 1150, 20, 11}, {3347, 1161, 13, 11},
+    {3361, 1172, 15, 11}, {3377, 1183, 14, 11}, {3392, 1194, 14, 11}, {3407, 1205, 22, 11}, {3430, 1216, 20, 11},
+    {3451, 1227, 19, 9}, {3471, 1236, 19, 10}, {3491, 1246, 21, 11}, {3513, 1257, 14, 11}, {3528, 1268, 23, 11},
+    {3552, 1279, 18, 11}, {3584, 1290, 17, 11}, {3602, 1301, 14, 8}, {3617, 1309, 4, 5}, {3622, 1309, 4, 5},
+    {3627, 1314, 9, 6}, {3637, 1320, 9, 5}, {3647, 1325, 10, 7}, {3658, 1332, 11, 1}, {3670, 1332, 15, 1},
+    {3686, 1333, 6, 3}, {3693, 1333, 18, 3}, {3712, 1336, 5, 5}, {3718, 1341, 9, 6}, {3728, 1347, 7, 8},
+    {3736, 1347, 7, 8}, {3744, 1355, 7, 8}, {3752, 1355, 7, 8}, {3760, 1355, 3, 8}, {3764, 1363, 7, 8},
+    {3772, 1363, 7, 8}, {3780, 1363, 10, 8}, {3791, 1371, 7, 8}, {3799, 1371, 7, 8}, {3807, 1371, 10, 8},
+    {3818, 1379, 8, 8}, {3827, 1379, 8, 8}, {3836, 1387, 8, 8}, {3845, 1387, 8, 8}, {3854, 1395, 7, 8},
+    {3862, 1395, 7, 8}, {3870, 1403, 7, 8}, {3878, 1403, 7, 8}, {3886, 1411, 7, 8}, {3894, 1411, 7, 8},
+    {3902, 1419, 7, 8}, {3910, 1419, 7, 8}, {3918, 1427, 3, 8}, {3922, 1427, 3, 8}, {3926, 1427, 9, 8},
+    {3936, 1435, 10, 9}, {3947, 1444, 3, 8}, {3951, 1444, 3, 8}, {3955, 1452, 11, 10}, {3967, 1462, 7, 8},
+    {3975, 1462, 12, 8}, {3988, 1470, 7, 8}, {3996, 1470, 20, 8}, {4017, 1478, 8, 10}, {4026, 1488, 16, 11},
+    {4043, 1488, 16, 11}, {4060, 1488, 11, 11}, {4072, 1488, 18, 11}, {4096, 1499, 16, 11}, {4113, 1499, 16, 11},
+    {4130, 1499, 11, 11}, {4142, 1499, 18, 11}, {4161, 1510, 16, 11}, {4178, 1510, 16, 11}, {4195, 1510, 11, 11},
+    {4207, 1510, 18, 11}, {4226, 1521, 19, 11}, {4246, 1536, 19, 11}, {4266, 1547, 19, 11}, {4286, 1558, 4, 6},
+    {4291, 1558, 4, 6}, {4296, 1564, 8, 8}, {4305, 1564, 8, 8}, {4314, 1572, 8, 8}, {4323, 1572, 8, 8},
+    {4332, 1572, 10, 8}, {4343, 1580, 8, 8}, {4352, 1580, 8, 8}, {4361, 1588, 8, 8}, {4370, 1588, 8, 8},
+    {4379, 1596, 12, 9}, {4392, 1596, 12, 9}, {4405, 1605, 12, 9}, {4418, 1605, 12, 9}, {4431, 1605, 7, 9},
+    {4439, 1614, 12, 9}, {4452, 1614, 12, 9}, {4465, 1623, 12, 9}, {4478, 1623, 12, 9}, {4491, 1632, 12, 9},
+    {4504, 1632, 12, 9}, {4517, 1641, 12, 9}, {4530, 1641, 12, 9}, {4543, 1650, 12, 9}, {4556, 1650, 12, 9},
+    {4569, 1650, 7, 9}, {4577, 1659, 12, 9}, {4590, 1659, 12, 9}, {4608, 1668, 12, 9}, {4621, 1668, 12, 9},
+    {4634, 1677, 12, 9}, {4647, 1677, 12, 9}, {4660, 1686, 12, 9}, {4673, 1686, 12, 9}, {4686, 1695, 12, 9},
+    {4699, 1695, 12, 9}, {4712, 1695, 7, 9}, {4720, 1704, 12, 9}, {4733, 1704, 12, 9}, {4746, 1713, 12, 9},
+    {4759, 1713, 12, 9}, {4772, 1722, 12, 9}, {4785, 1722, 12, 9}, {4798, 1731, 12, 9}, {4811, 1731, 12, 9},
+    {4824, 1740, 12, 9}, {4837, 1740, 12, 9}, {4850, 1749, 12, 9}, {4863, 1749, 12, 9}, {4876, 1758, 12, 9},
+    {4889, 1758, 12, 9}, {4902, 1767, 12, 9}, {4915, 1767, 12, 9}, {4928, 1776, 12, 9}, {4941, 1776, 12, 9},
+    {4954, 1785, 9, 5}, {4964, 1790, 35, 6}, {5000, 1790, 38, 6}, {5039, 1790, 11, 6}, {5051, 1796, 33, 6},
+    {5120, 1796, 36, 6}, {5157, 1802, 9, 6}, {5167, 1802, 15, 6}, {5183, 1802, 11, 6}, {5195, 1808, 19, 6},
+    {5215, 1808, 18, 6}, {5234, 1814, 31, 7}, {5266, 1821, 36, 7}, {5303, 1828, 8, 6}, {5312, 1828, 17, 6},
+    {5330, 1834, 6, 6}, {5337, 1834, 15, 6}, {5353, 1840, 17, 7}, {5371, 1847, 20, 7}, {5392, 1854, 17, 7},
+    {5410, 1861, 20, 7}, {5431, 1868, 6, 6}, {5438, 1868, 13, 6}, {5452, 1874, 8, 6}, {5461, 1874, 17, 6},
+    {5479, 1880, 16, 6}, {5496, 1880, 19, 6}, {5516, 1886, 28, 7}, {5545, 1893, 33, 7}, {5579, 1900, 28, 7},
+    {5632, 1907, 36, 7}, {5669, 1914, 36, 7}, {5706, 1921, 36, 7}, {5743, 1928, 36, 7}, {5780, 1935, 44, 7},
+    {5825, 1942, 44, 7}, {5870, 1949, 40, 7}, {5911, 1956, 28, 7}, {5940, 1963, 36, 7}, {5977, 1970, 36, 7},
+    {6014, 1977, 36, 7}, {6051, 1984, 36, 7}, {6088, 1991, 39, 7}, {6144, 1998, 39, 7}, {6184, 2005, 39, 7},
+    {6224, 2012, 30, 7}, {6255, 2019, 38, 7}, {6294, 2026, 38, 7}, {6333, 2033, 38, 7}, {6372, 2048, 41, 7},
+    {6414, 2055, 41, 7}, {6456, 2062, 19, 6}, {6476, 2062, 20, 6}, {6497, 2068, 17, 6}, {6515, 2068, 18, 6},
+    {6534, 2074, 9, 5}, {6544, 2079, 36, 8}, {6581, 2079, 46, 8}, {6656, 2087, 38, 8}, {6695, 2087, 48, 8},
+    {6744, 2095, 8, 8}, {6753, 2095, 23, 8}, {6777, 2103, 10, 8}, {6788, 2103, 25, 8}, {6814, 2111, 18, 8},
+    {6833, 2111, 32, 8}, {6866, 2119, 29, 8}, {6896, 2119, 40, 8}, {6937, 2127, 3, 8}, {6941, 2135, 7, 5},
+    {6949, 2140, 18, 6}, {6968, 2146, 12, 7}, {6981, 2153, 12, 8}, {6994, 2153, 38, 8}, {7033, 2161, 12, 8},
+    {7046, 2161, 38, 8}, {7085, 2169, 14, 7}, {7100, 2176, 13, 8}, {7114, 2176, 35, 8}, {7150, 2176, 12, 8},
+    {7168, 2184, 13, 8}, {7182, 2184, 35, 8}, {7218, 2184, 12, 8}, {7231, 2192, 22, 7}, {7254, 2199, 40, 8},
+    {7295, 2199, 50, 8}, {7346, 2199, 15, 8}, {7362, 2207, 40, 8}, {7403, 2207, 50, 8}, {7454, 2207, 15, 8},
+    {7470, 2215, 11, 7}, {7482, 2222, 31, 8}, {7514, 2222, 28, 8}, {7543, 2230, 31, 8}, {7575, 2230, 28, 8},
+    {7604, 2238, 14, 7}, {7619, 2245, 35, 8}, {7655, 2253, 15, 9}, {7680, 2262, 20, 9}, {7701, 2271, 40, 8},
+    {7742, 2279, 20, 9}, {7763, 2288, 25, 9}, {7789, 2297, 17, 7}, {7807, 2304, 36, 8}, {7844, 2312, 36, 8},
+    {7881, 2320, 12, 7}, {7894, 2327, 33, 8}, {7928, 2335, 12, 9}, {7941, 2344, 38, 8}, {7980, 2352, 17, 9},
+    {7998, 2361, 17, 6}, {8016, 2367, 22, 7}, {8039, 2374, 36, 8}, {8076, 2382, 36, 9}, {8113, 2382, 38, 9},
+    {8152, 2391, 36, 9}, {8192, 2391, 38, 9}, {8231, 2400, 36, 9}, {8268, 2400, 38, 9}, {8307, 2409, 36, 9},
+    {8344, 2409, 38, 9}, {8383, 2418, 36, 8}, {8420, 2426, 39, 9}, {8460, 2426, 49, 9}, {8510, 2435, 36, 9},
+    {8547, 2435, 38, 9}, {8586, 2444, 36, 9}, {8623, 2444, 38, 9}, {8662, 2453, 36, 9}, {8704, 2453, 38, 9},
+    {8743, 2462, 24, 7}, {8768, 2469, 24, 7}, {8793, 2476, 28, 8}, {8822, 2484, 26, 9}, {8849, 2484, 32, 9},
+    {8882, 2493, 4, 5}, {8887, 2498, 5, 5}, {8893, 2503, 6, 5}, {8900, 2508, 15, 5}, {8916, 2508, 23, 5},
+    {8940, 2513, 14, 5}, {8955, 2513, 22, 5}, {8978, 2518, 13, 5}, {8992, 2518, 21, 5}, {9014, 2523, 16, 6},
+    {9031, 2523, 25, 6}, {9057, 2529, 16, 6}, {9074, 2529, 25, 6}, {9100, 2535, 16, 6}, {9117, 2535, 25, 6},
+    {9143, 2541, 16, 6}, {9160, 2541, 25, 6}, {9186, 2547, 16, 6}, {9216, 2547, 25, 6}, {9242, 2560, 16, 6},
+    {9259, 2560, 25, 6}, {9285, 2566, 19, 8}, {9305, 2574, 14, 8}, {9320, 2582, 17, 8}, {9338, 2590, 16, 7},
+    {9355, 2597, 12, 5}, {9368, 2602, 10, 6}, {9379, 2608, 17, 7}, {9397, 2615, 6, 3}, {9404, 2618, 6, 7},
+    {9411, 2625, 9, 10}, {9421, 2625, 20, 10}, {9442, 2635, 13, 11}, {9456, 2635, 29, 11}, {9486, 2646, 13, 11},
+    {9500, 2646, 29, 11}, {9530, 2657, 14, 11}, {9545, 2657, 29, 11}, {9575, 2668, 17, 10}, {9593, 2668, 23, 10},
+    {9617, 2678, 9, 10}, {9627, 2678, 18, 10}, {9646, 2688, 10, 11}, {9657, 2688, 28, 11}, {9686, 2699, 10, 13},
+    {9697, 2699, 25, 13}, {9728, 2712, 8, 13}, {9737, 2712, 12, 13}, {9750, 2725, 8, 13}, {9759, 2725, 12, 13},
+    {9772, 2738, 8, 13}, {9781, 2738, 12, 13}, {9794, 2751, 8, 13}, {9803, 2751, 12, 13}, {9816, 2764, 8, 13},
+    {9825, 2764, 12, 13}, {9838, 2777, 8, 13}, {9847, 2777, 12, 13}, {9860, 2790, 8, 13}, {9869, 2790, 12, 13},
+    {9882, 2803, 8, 13}, {9891, 2803, 12, 13}, {9904, 2816, 8, 13}, {9913, 2816, 12, 13}, {9926, 2829, 8, 13},
+    {9935, 2829, 12, 13}, {9948, 2842, 31, 11}, {9980, 2853, 6, 3}, {9987, 2853, 18, 3}, {10006, 2856, 5, 5},
+    {10012, 2856, 5, 5}, {10018, 2861, 19, 7}, {10038, 2861, 21, 7}, {10060, 2868, 25, 7}, {10086, 2868, 28, 7},
+    {10115, 2875, 21, 7}, {10137, 2875, 23, 7}, {10161, 2882, 4, 6}, {10166, 2882, 10, 6}, {10177, 2888, 3, 7},
+    {10181, 2888, 13, 7}, {10195, 2888, 24, 7}, {10220, 2888, 6, 7}, {10227, 2895, 8, 7}, {10240, 2895, 11, 7},
+    {10252, 2895, 9, 7}, {10262, 2895, 16, 7}, {10279, 2895, 14, 7}, {10294, 2895, 11, 7}, {10306, 2895, 3, 7},
+    {10310, 2895, 42, 7}, {10353, 2895, 8, 7}, {10362, 2895, 16, 7}, {10379, 2902, 10, 5}, {10390, 2907, 12, 6},
+    {10403, 2913, 11, 7}, {10415, 2913, 11, 7}, {10427, 2920, 24, 7}, {10452, 2920, 24, 7}, {10477, 2927, 27, 8},
+    {10505, 2935, 7, 9}, {10513, 2935, 7, 9}, {10521, 2944, 7, 9}, {10529, 2953, 7, 9}, {10537, 2962, 16, 6},
+    {10554, 2968, 2, 7}, {10557, 2968, 5, 7}, {10563, 2968, 8, 7}, {10572, 2968, 31, 7}, {10604, 2968, 11, 7},
+    {10616, 2968, 14, 7}, {10631, 2975, 10, 7}, {10642, 2982, 10, 8}, {10653, 2990, 10, 8}, {10664, 2998, 10, 8},
+    {10675, 3006, 10, 8}, {10686, 3006, 10, 8}, {10697, 3014, 10, 8}, {10708, 3022, 10, 8}, {10719, 3030, 10, 8},
+    {10730, 3038, 10, 8}, {10752, 3046, 10, 8}, {10763, 3054, 10, 8}, {10774, 3072, 10, 8}, {10785, 3080, 10, 8},
+    {10796, 3088, 10, 8}, {10807, 3096, 10, 8}, {10818, 3104, 10, 8}, {10829, 3112, 10, 8}, {10840, 3120, 10, 8},
+    {10851, 3128, 10, 8}, {10862, 3136, 10, 8}, {10873, 3144, 10, 8}, {10884, 3152, 10, 7}, {10895, 3159, 5, 8},
+    {10901, 3159, 10, 8}, {10912, 3159, 9, 8}, {10922, 3159, 10, 8}, {10933, 3159, 4, 8}, {10938, 3159, 8, 8},
+    {10947, 3159, 8, 8}, {10956, 3167, 10, 8}, {10967, 3175, 10, 8}, {10978, 3183, 10, 8}, {10989, 3191, 10, 8},
+    {11000, 3199, 10, 8}, {11011, 3207, 5, 8}, {11017, 3207, 10, 8}, {11028, 3207, 8, 8}, {11037, 3207, 10, 8},
+    {11048, 3207, 4, 8}, {11053, 3207, 8, 8}, {11062, 3215, 12, 6}, {11075, 3221, 15, 7}, {11091, 3221, 11, 7},
+    {11103, 3221, 10, 7}, {11114, 3221, 16, 7}, {11131, 3221, 13, 7}, {11145, 3221, 32, 7}, {11178, 3221, 13, 7},
+    {11192, 3221, 10, 7}, {11203, 3221, 15, 7}, {11219, 3228, 22, 7}, {11264, 3228, 45, 7}, {11310, 3235, 20, 7},
+    {11331, 3235, 22, 7}, {11354, 3235, 43, 7}, {11398, 3242, 14, 8}, {11413, 3242, 12, 8}, {11426, 3242, 15, 8},
+    {11442, 3242, 33, 8}, {11476, 3242, 12, 8}, {11489, 3242, 17, 8}, {11507, 3250, 14, 8}, {11522, 3250, 12, 8},
+    {11535, 3250, 5, 8}, {11541, 3250, 18, 8}, {11560, 3250, 15, 8}, {11576, 3250, 33, 8}, {11610, 3250, 15, 8},
+    {11626, 3250, 12, 8}, {11639, 3250, 17, 8}, {11657, 3258, 14, 8}, {11672, 3258, 12, 8}, {11685, 3258, 5, 8},
+    {11691, 3258, 18, 8}, {11710, 3258, 15, 8}, {11726, 3258, 33, 8}, {11776, 3258, 15, 8}, {11792, 3258, 12, 8},
+    {11805, 3258, 17, 8}, {11823, 3266, 14, 8}, {11838, 3266, 12, 8}, {11851, 3266, 5, 8}, {11857, 3266, 18, 8},
+    {11876, 3266, 15, 8}, {11892, 3266, 33, 8}, {11926, 3266, 15, 8}, {11942, 3266, 12, 8}, {11955, 3266, 17, 8},
+    {11973, 3274, 8, 7}, {11982, 3274, 3, 7}, {11986, 3274, 16, 7}, {12003, 3281, 19, 9}, {12023, 3281, 7, 9},
+    {12031, 3290, 25, 9}, {12057, 3299, 9, 9}, {12067, 3299, 9, 9}, {12077, 3308, 21, 9}, {12099, 3317, 18, 9},
+    {12118, 3326, 24, 9}, {12143, 3335, 17, 9}, {12161, 3344, 23, 6}, {12185, 3350, 28, 7}, {12214, 3357, 5, 8},
+    {12220, 3365, 6, 9}, {12227, 3365, 20, 9}, {12248, 3365, 22, 9}, {12288, 3365, 15, 9}, {12304, 3365, 14, 9},
+    {12319, 3374, 7, 9}, {12327, 3374, 10, 9}, {12338, 3374, 31, 9}, {12370, 3374, 7, 9}, {12378, 3374, 7, 9},
+    {12386, 3383, 7, 9}, {12394, 3383, 20, 9}, {12415, 3383, 31, 9}, {12447, 3392, 7, 9}, {12455, 3392, 23, 9},
+    {12479, 3392, 7, 9}, {12487, 3392, 31, 9}, {12519, 3392, 7, 9}, {12527, 3401, 8, 9}, {12536, 3401, 9, 9},
+    {12546, 3401, 25, 9}, {12572, 3401, 8, 9}, {12581, 3401, 33, 9}, {12615, 3401, 8, 9}, {12624, 3410, 20, 9},
+    {12645, 3419, 10, 9}, {12656, 3419, 9, 9}, {12666, 3419, 8, 9}, {12675, 3419, 4, 9}, {12680, 3419, 27, 9},
+    {12708, 3419, 10, 9}, {12719, 3419, 13, 9}, {12733, 3428, 4, 9}, {12738, 3428, 4, 9}, {12743, 3428, 37, 9},
+    {12781, 3437, 10, 9}, {12800, 3437, 10, 9}, {12811, 3437, 57, 9}, {12869, 3437, 11, 9}, {12881, 3446, 10, 9},
+    {12892, 3446, 9, 9}, {12902, 3446, 7, 9}, {12910, 3446, 13, 9}, {12924, 3446, 13, 9}, {12938, 3446, 13, 9},
+    {12952, 3446, 14, 9}, {12967, 3446, 14, 9}, {12982, 3446, 14, 9}, {12997, 3446, 25, 9}, {13023, 3446, 16, 9},
+    {13040, 3446, 16, 9}, {13057, 3446, 16, 9}, {13074, 3446, 10, 9}, {13085, 3446, 13, 9}, {13099, 3455, 10, 9},
+    {13110, 3455, 12, 9}, {13123, 3455, 5, 9}, {13129, 3455, 27, 9}, {13157, 3455, 13, 9}, {13171, 3455, 10, 9},
+    {13182, 3455, 35, 9}, {13218, 3455, 10, 9}, {13229, 3464, 10, 9}, {13240, 3464, 12, 9}, {13253, 3464, 5, 9},
+    {13259, 3464, 27, 9}, {13287, 3464, 13, 9}, {13312, 3464, 10, 9}, {13323, 3464, 35, 9}, {13359, 3464, 10, 9},
+    {13370, 3473, 10, 9}, {13381, 3473, 12, 9}, {13394, 3473, 5, 9}, {13400, 3473, 27, 9}, {13428, 3473, 13, 9},
+    {13442, 3473, 10, 9}, {13453, 3473, 35, 9}, {13489, 3473, 10, 9}, {13500, 3482, 10, 9}, {13511, 3482, 12, 9},
+    {13524, 3482, 13, 9}, {13538, 3482, 35, 9}, {13574, 3482, 10, 9}, {13585, 3491, 14, 9}, {13600, 3491, 27, 9},
+    {13628, 3491, 16, 9}, {13645, 3491, 14, 9}, {13660, 3491, 17, 9}, {13678, 3500, 14, 9}, {13693, 3500, 27, 9},
+    {13721, 3500, 16, 9}, {13738, 3500, 14, 9}, {13753, 3500, 17, 9}, {13771, 3509, 5, 8}, {13777, 3517, 14, 9},
+    {13792, 3517, 2, 9}, {13795, 3517, 13, 9}, {13809, 3526, 5, 8}, {13824, 3526, 6, 8}, {13831, 3534, 11, 9},
+    {13843, 3534, 20, 9}, {13864, 3534, 13, 9}, {13878, 3543, 11, 9}, {13890, 3543, 20, 9}, {13911, 3543, 16, 9},
+    {13928, 3543, 13, 9}, {13942, 3552, 14, 9}, {13957, 3552, 20, 9}, {13978, 3552, 13, 9}, {13992, 3561, 14, 9},
+    {14007, 3561, 20, 9}, {14028, 3561, 16, 9}, {14045, 3561, 13, 9}, {14059, 3570, 12, 9}, {14072, 3570, 21, 9},
+    {14094, 3570, 17, 9}, {14112, 3570, 14, 9}, {14127, 3584, 15, 9}, {14143, 3584, 21, 9}, {14165, 3584, 17, 9},
+    {14183, 3584, 14, 9}, {14198, 3593, 6, 9}, {14205, 3593, 18, 9}, {14224, 3593, 46, 9}, {14271, 3593, 9, 9},
+    {14281, 3602, 5, 9}, {14287, 3602, 8, 9}, {14296, 3602, 36, 9}, {14336, 3602, 8, 9}, {14345, 3611, 6, 9},
+    {14352, 3611, 9, 9}, {14362, 3611, 40, 9}, {14403, 3611, 9, 9}, {14413, 3620, 5, 8}, {14419, 3620, 6, 8},
+    {14426, 3620, 7, 8}, {14434, 3628, 10, 9}, {14445, 3628, 12, 9}, {14458, 3628, 7, 9}, {14466, 3637, 16, 9},
+    {14483, 3637, 10, 9}, {14494, 3637, 19, 9}, {14514, 3637, 11, 9}, {14526, 3637, 13, 9}, {14540, 3646, 19, 9},
+    {14560, 3646, 13, 9}, {14574, 3646, 22, 9}, {14597, 3646, 14, 9}, {14612, 3646, 16, 9}, {14629, 3655, 28, 9},
+    {14658, 3655, 22, 9}, {14681, 3655, 33, 9}, {14715, 3655, 25, 9}, {14741, 3664, 16, 9}, {14758, 3664, 12, 9},
+    {14771, 3664, 21, 9}, {14793, 3664, 13, 9}, {14807, 3664, 15, 9}, {14823, 3673, 19, 9}, {14848, 3673, 13, 9},
+    {14862, 3673, 22, 9}, {14885, 3673, 14, 9}, {14900, 3673, 16, 9}, {14917, 3682, 5, 8}, {14923, 3690, 15, 9},
+    {14939, 3690, 10, 9}, {14950, 3690, 1, 9}, {14952, 3690, 13, 9}, {14966, 3690, 21, 9}, {14988, 3690, 13, 9},
+    {15002, 3699, 16, 9}, {15019, 3708, 11, 9}, {15031, 3708, 20, 9}, {15052, 3708, 12, 9}, {15065, 3708, 14, 9},
+    {15080, 3717, 13, 9}, {15094, 3717, 22, 9}, {15117, 3717, 14, 9}, {15132, 3717, 16, 9}, {15149, 3726, 11, 9},
+    {15161, 3726, 20, 9}, {15182, 3726, 12, 9}, {15195, 3726, 14, 9}, {15210, 3735, 16, 9}, {15227, 3735, 25, 9},
+    {15253, 3735, 17, 9}, {15271, 3744, 17, 9}, {15289, 3744, 18, 9}, {15308, 3753, 19, 9}, {15360, 3762, 29, 9},
+    {15390, 3762, 31, 9}, {15422, 3771, 21, 9}, {15444, 3780, 6, 9}, {15451, 3780, 17, 9}, {15469, 3780, 16, 9},
+    {15486, 3780, 25, 9}, {15512, 3780, 17, 9}, {15530, 3789, 10, 9}, {15541, 3789, 19, 9}, {15561, 3789, 15, 9},
+    {15577, 3789, 27, 9}, {15605, 3789, 18, 9}, {15624, 3798, 6, 9}, {15631, 3807, 12, 10}, {15644, 3817, 16, 11},
+    {15661, 3828, 16, 11}, {15678, 3839, 16, 11}, {15695, 3850, 19, 11}, {15715, 3861, 30, 11}, {15746, 3872, 30, 11},
+    {15777, 3883, 30, 11}, {15808, 3894, 30, 11}, {15839, 3905, 11, 10}, {15872, 3915, 20, 11}, {15893, 3926, 19, 11},
+    {15913, 3926, 7, 11}, {15921, 3937, 20, 11}, {15942, 3937, 17, 11}, {15960, 3937, 8, 11}, {15969, 3937, 18, 11},
+    {15988, 3948, 23, 11}, {16012, 3959, 19, 11}, {16032, 3959, 7, 11}, {16040, 3959, 18, 11}, {16059, 3959, 8, 11},
+    {16068, 3959, 13, 11}, {16082, 3970, 19, 11}, {16102, 3981, 23, 11}, {16126, 3981, 11, 11}, {16138, 3981, 17, 11},
+    {16156, 3992, 27, 11}, {16184, 4003, 28, 11}, {16213, 4014, 26, 11}, {16240, 4014, 14, 11}, {16255, 4014, 15, 11},
+    {16271, 4025, 15, 11}, {16287, 4036, 29, 11}, {16317, 4047, 29, 11}, {16347, 4047, 17, 11}, {16384, 4047, 28, 11},
+    {16413, 4058, 22, 11}, {16436, 4069, 18, 11}, {16455, 4080, 23, 11}, {16479, 4096, 9, 11}, {16489, 4107, 9, 11},
+    {16499, 4118, 16, 11}, {16516, 4129, 16, 11}, {16533, 4140, 21, 11}, {16555, 4151, 22, 11}, {16578, 4162, 26, 11},
+    {16605, 4173, 22, 11}, {16628, 4184, 18, 11}, {16647, 4195, 10, 11}, {16658, 4206, 13, 11}, {16672, 4217, 10, 11},
+    {16683, 4228, 18, 11}, {16702, 4239, 24, 11}, {16727, 4250, 21, 11}, {16749, 4261, 10, 11}, {16760, 4272, 15, 11},
+    {16776, 4283, 26, 11}, {16803, 4294, 11, 10}, {16815, 4304, 26, 11}, {16842, 4304, 14, 11}, {16857, 4315, 25, 11},
+    {16896, 4315, 13, 11}, {16910, 4326, 27, 11}, {16938, 4326, 15, 11}, {16954, 4337, 23, 11}, {16978, 4337, 11, 11},
+    {16990, 4348, 24, 11}, {17015, 4348, 12, 11}, {17028, 4359, 28, 11}, {17057, 4370, 29, 11}, {17087, 4370, 17, 11},
+    {17105, 4381, 20, 11}, {17126, 4392, 28, 11}, {17155, 4392, 16, 11}, {17172, 4403, 28, 11}, {17201, 4403, 16, 11},
+    {17218, 4414, 25, 11}, {17244, 4414, 13, 11}, {17258, 4414, 16, 11}, {17275, 4425, 30, 11}, {17306, 4425, 18, 11},
+    {17325, 4425, 19, 11}, {17345, 4425, 24, 11}, {17370, 4436, 29, 11}, {17408, 4447, 26, 11}, {17435, 4447, 14, 11},
+    {17450, 4447, 29, 11}, {17480, 4447, 23, 11}, {17504, 4447, 26, 11}, {17531, 4458, 27, 11}, {17559, 4458, 21, 11},
+    {17581, 4469, 30, 11}, {17612, 4469, 24, 11}, {17637, 4480, 30, 11}, {17668, 4480, 24, 11}, {17693, 4491, 26, 11},
+    {17720, 4491, 20, 11}, {17741, 4502, 28, 11}, {17770, 4502, 22, 11}, {17793, 4513, 32, 11}, {17826, 4513, 26, 11},
+    {17853, 4524, 31, 11}, {17885, 4524, 25, 11}, {17920, 4535, 30, 11}, {17951, 4535, 24, 11}, {17976, 4546, 26, 11},
+    {18003, 4546, 20, 11}, {18024, 4557, 32, 11}, {18057, 4557, 26, 11}, {18084, 4568, 28, 11}, {18113, 4568, 22, 11},
+    {18136, 4579, 32, 11}, {18169, 4579, 26, 11}, {18196, 4590, 32, 11}, {18229, 4608, 25, 11}, {18255, 4619, 20, 11},
+    {18276, 4630, 24, 11}, {18301, 4641, 29, 11}, {18331, 4652, 28, 11}, {18360, 4663, 32, 11}, {18393, 4663, 20, 11},
+    {18432, 4663, 22, 11}, {18455, 4663, 26, 11}, {18482, 4674, 28, 11}, {18511, 4685, 23, 11}, {18535, 4696, 34, 11},
+    {18570, 4707, 18, 11}, {18589, 4718, 25, 11}, {18615, 4729, 24, 11}, {18640, 4740, 12, 10}, {18653, 4750, 25, 11},
+    {18679, 4761, 24, 11}, {18704, 4772, 21, 11}, {18726, 4783, 20, 11}, {18747, 4794, 17, 11}, {18765, 4805, 24, 11},
+    {18790, 4805, 9, 11}, {18800, 4816, 23, 11}, {18824, 4827, 4, 11}, {18829, 4827, 16, 11}, {18846, 4838, 15, 11},
+    {18862, 4849, 25, 11}, {18888, 4860, 10, 11}, {18899, 4871, 22, 11}, {18944, 4882, 27, 11}, {18972, 4882, 17, 11},
+    {18990, 4893, 37, 11}, {19028, 4904, 37, 11}, {19066, 4915, 37, 11}, {19104, 4926, 23, 11}, {19128, 4926, 11, 11},
+    {19140, 4937, 23, 11}, {19164, 4937, 11, 11}, {19176, 4948, 23, 11}, {19200, 4948, 11, 11}, {19212, 4959, 11, 10},
+    {19224, 4969, 16, 11}, {19241, 4980, 12, 10}, {19254, 4990, 24, 11}, {19279, 5001, 28, 11}, {19308, 5012, 12, 10},
+    {19321, 5022, 30, 11}, {19352, 5033, 31, 11}, {19384, 5044, 32, 11}, {19417, 5055, 30, 11}, {19456, 5066, 32, 11},
+    {19489, 5077, 32, 11}, {19522, 5088, 12, 10}, {19535, 5098, 16, 11}, {19552, 5120, 12, 9}, {19565, 5120, 21, 9},
+    {19587, 5120, 13, 9}, {19601, 5129, 10, 9}, {19612, 5129, 20, 9}, {19633, 5129, 12, 9}, {19646, 5138, 15, 10},
+    {19662, 5138, 12, 10}, {19675, 5148, 15, 10}, {19691, 5148, 4, 10}, {19696, 5158, 7, 10}, {19704, 5168, 28, 9},
+    {19733, 5168, 19, 9}, {19753, 5168, 25, 9}, {19779, 5168, 22, 9}, {19802, 5168, 24, 9}, {19827, 5177, 8, 8},
+    {19836, 5185, 16, 10}, {19853, 5185, 23, 10}, {19877, 5185, 21, 10}, {19899, 5185, 19, 10}, {19919, 5195, 15, 10},
+    {19935, 5195, 22, 10}, {19968, 5195, 20, 10}, {19989, 5195, 18, 10}, {20008, 5205, 13, 10}, {20022, 5205, 32, 10},
+    {20055, 5205, 20, 10}, {20076, 5205, 26, 10}, {20103, 5215, 13, 10}, {20117, 5215, 32, 10}, {20150, 5215, 26, 10},
+    {20177, 5225, 16, 10}, {20194, 5225, 27, 10}, {20222, 5225, 21, 10}, {20244, 5225, 19, 10}, {20264, 5235, 15, 10},
+    {20280, 5235, 26, 10}, {20307, 5235, 20, 10}, {20328, 5235, 18, 10}, {20347, 5245, 6, 11}, {20354, 5245, 9, 11},
+    {20364, 5245, 7, 11}, {20372, 5256, 19, 11}, {20392, 5256, 22, 11}, {20415, 5256, 22, 11}, {20438, 5267, 7, 11},
+    {20446, 5267, 10, 11}, {20457, 5267, 8, 11}, {20466, 5267, 10, 11}, {20480, 5278, 6, 11}, {20487, 5278, 9, 11},
+    {20497, 5278, 7, 11}, {20505, 5289, 9, 11}, {20515, 5289, 12, 11}, {20528, 5289, 10, 11}, {20539, 5300, 15, 11},
+    {20555, 5300, 18, 11}, {20574, 5300, 13, 11}, {20588, 5311, 3, 8}, {20592, 5311, 3, 8}, {20596, 5319, 3, 8},
+    {20600, 5319, 3, 8}, {20604, 5327, 3, 8}, {20608, 5327, 3, 8}, {20612, 5327, 8, 8}, {20621, 5335, 11, 8},
+    {20633, 5343, 12, 8}, {20646, 5343, 15, 8}, {20662, 5343, 8, 8}, {20671, 5343, 10, 8}, {20682, 5351, 14, 8},
+    {20697, 5351, 10, 8}, {20708, 5351, 12, 8}, {20721, 5351, 11, 8}, {20733, 5359, 14, 8}, {20748, 5359, 5, 8},
+    {20754, 5359, 10, 8}, {20765, 5359, 12, 8}, {20778, 5359, 11, 8}, {20790, 5367, 14, 8}, {20805, 5367, 5, 8},
+    {20811, 5367, 10, 8}, {20822, 5367, 12, 8}, {20835, 5367, 11, 8}, {20847, 5375, 14, 8}, {20862, 5375, 5, 8},
+    {20868, 5375, 10, 8}, {20879, 5375, 12, 8}, {20892, 5375, 11, 8}, {20904, 5383, 18, 8}, {20923, 5383, 21, 8},
+    {20945, 5383, 14, 8}, {20960, 5391, 18, 8}, {20992, 5391, 21, 8}, {21014, 5391, 14, 8}, {21029, 5399, 19, 7},
+    {21049, 5406, 6, 8}, {21056, 5406, 20, 8}, {21077, 5406, 3, 8}, {21081, 5414, 3, 8}, {21085, 5414, 3, 8},
+    {21089, 5414, 7, 8}, {21097, 5422, 4, 8}, {21102, 5422, 20, 8}, {21123, 5422, 14, 8}, {21138, 5430, 7, 8},
+    {21146, 5430, 7, 8}, {21154, 5438, 11, 8}, {21166, 5438, 20, 8}, {21187, 5438, 3, 8}, {21191, 5446, 8, 8},
+    {21200, 5446, 8, 8}, {21209, 5454, 6, 8}, {21216, 5462, 18, 10}, {21235, 5462, 21, 10}, {21257, 5472, 25, 10},
+    {21283, 5482, 24, 10}, {21308, 5492, 26, 10}, {21335, 5492, 34, 10}, {21370, 5502, 4, 9}, {21375, 5502, 13, 9},
+    {21389, 5511, 26, 10}, {21416, 5521, 27, 10}, {21444, 5531, 21, 10}, {21466, 5541, 16, 11}, {21483, 5552, 16, 11},
+    {21504, 5563, 13, 11}, {21518, 5574, 22, 11}, {21541, 5585, 21, 11}, {21563, 5596, 12, 9}, {21576, 5605, 11, 9},
+    {21588, 5614, 11, 9}, {21600, 5632, 12, 9}, {21613, 5641, 14, 9}, {21628, 5650, 10, 9}, {21639, 5659, 10, 9},
+    {21650, 5668, 9, 9}, {21660, 5677, 8, 9}, {21669, 5686, 11, 9}, {21681, 5695, 15, 9}, {21697, 5704, 14, 9},
+    {21712, 5713, 9, 9}, {21722, 5722, 17, 9}, {21740, 5731, 13, 9}, {21754, 5740, 8, 9}, {21763, 5749, 12, 9},
+    {21776, 5758, 10, 9}, {21787, 5767, 10, 9}, {21798, 5776, 10, 10}, {21809, 5786, 7, 10}, {21817, 5796, 22, 10},
+    {21840, 5806, 16, 10}, {21857, 5816, 14, 10}, {21872, 5826, 12, 10}, {21885, 5836, 16, 10}, {21902, 5846, 8, 10},
+    {21911, 5856, 14, 10}, {21926, 5866, 20, 10}, {21947, 5876, 11, 10}, {21959, 5886, 19, 10}, {21979, 5896, 13, 10},
+    {21993, 5906, 15, 10}, {22016, 5916, 11, 10}, {22028, 5926, 8, 9}, {22037, 5935, 9, 9}, {22047, 5944, 8, 9},
+    {22056, 5953, 10, 9}, {22067, 5962, 18, 9}, {22086, 5971, 11, 9}, {22098, 5980, 8, 9}, {22107, 5989, 11, 9},
+    {22119, 5998, 10, 9}, {22130, 6007, 9, 9}, {22140, 6016, 15, 9}, {22156, 6025, 10, 9}, {22167, 6034, 9, 9},
+    {22177, 6043, 7, 9}, {22185, 6052, 8, 9}, {22194, 6061, 15, 9}, {22210, 6070, 24, 9}, {22235, 6079, 10, 9},
+    {22246, 6088, 10, 9}, {22257, 6097, 16, 9}, {22274, 6106, 9, 9}, {22284, 6115, 9, 9}, {22294, 6124, 12, 9},
+    {22307, 6144, 16, 9}, {22324, 6153, 11, 9}, {22336, 6162, 10, 9}, {22347, 6171, 13, 9}, {22361, 6180, 16, 9},
+    {22378, 6189, 10, 9}, {22389, 6198, 14, 9}, {22404, 6207, 23, 9}, {22428, 6216, 14, 10}, {22443, 6226, 12, 10},
+    {22456, 6236, 9, 10}, {22466, 6246, 14, 10}, {22481, 6256, 11, 10}, {22493, 6266, 9, 10}, {22503, 6276, 12, 10},
+    {22528, 6286, 10, 10}, {22539, 6296, 7, 10}, {22547, 6306, 14, 10}, {22562, 6316, 10, 10}, {22573, 6326, 14, 10},
+    {22588, 6336, 8, 10}, {22597, 6346, 14, 10}, {22612, 6356, 7, 10}, {22620, 6366, 25, 10}, {22646, 6376, 15, 10},
+    {22662, 6386, 22, 10}, {22685, 6396, 26, 10}, {22712, 6406, 13, 10}, {22726, 6416, 11, 10}, {22738, 6426, 9, 10},
+    {22748, 6436, 21, 10}, {22770, 6446, 27, 10}, {22798, 6456, 15, 10}, {22814, 6466, 24, 10}, {22839, 6476, 25, 10},
+    {22865, 6486, 8, 10}, {22874, 6496, 10, 10}, {22885, 6506, 34, 10}, {22920, 6516, 26, 10}, {22947, 6526, 10, 10},
+    {22958, 6536, 16, 10}, {22975, 6546, 26, 10}, {23002, 6546, 11, 10}, {23014, 6556, 17, 10}, {23040, 6566, 29, 10},
+    {23070, 6576, 11, 10}, {23082, 6586, 9, 10}, {23092, 6596, 9, 10}, {23102, 6606, 14, 10}, {23117, 6616, 16, 10},
+    {23134, 6626, 17, 10}, {23152, 6636, 11, 10}, {23164, 6656, 9, 10}, {23174, 6666, 7, 10}, {23182, 6676, 12, 10},
+    {23195, 6686, 3, 10}, {23199, 6696, 9, 10}, {23209, 6706, 20, 10}, {23230, 6716, 15, 10}, {23246, 6726, 14, 10},
+    {23261, 6736, 33, 10}, {23295, 6746, 18, 10}, {23314, 6746, 26, 10}, {23341, 6756, 17, 10}, {23359, 6756, 25, 10},
+    {23385, 6766, 26, 10}, {23412, 6776, 20, 10}, {23433, 6786, 22, 10}, {23456, 6796, 21, 10}, {23478, 6806, 22, 10},
+    {23501, 6816, 11, 10}, {23513, 6826, 6, 10}, {23520, 6836, 9, 10}, {23530, 6846, 14, 10}, {23552, 6856, 19, 10},
+    {23572, 6866, 28, 10}, {23601, 6876, 17, 10}, {23619, 6886, 26, 10}, {23646, 6896, 13, 10}, {23660, 6906, 15, 10},
+    {23676, 6916, 11, 10}, {23688, 6926, 25, 10}, {23714, 6936, 17, 10}, {23732, 6946, 17, 10}, {23750, 6956, 18, 10},
+    {23769, 6966, 19, 10}, {23789, 6976, 14, 10}, {23804, 6986, 27, 10}, {23832, 6996, 29, 10}, {23862, 7006, 24, 10},
+    {23887, 7016, 21, 10}, {23909, 7026, 21, 10}, {23931, 7036, 21, 10}, {23953, 7046, 16, 10}, {23970, 7056, 25, 10},
+    {23996, 7066, 17, 10}, {24014, 7076, 32, 10}, {24064, 7086, 29, 10}, {24094, 7096, 18, 10}, {24113, 7106, 21, 10},
+    {24135, 7116, 27, 10}, {24163, 7126, 22, 10}, {24186, 7136, 29, 10}, {24216, 7146, 23, 10}, {24240, 7168, 21, 10},
+    {24262, 7178, 34, 10}, {24297, 7188, 36, 10}, {24334, 7198, 18, 10}, {24353, 7208, 26, 10}, {24380, 7218, 26, 10},
+    {24407, 7228, 21, 10}, {24429, 7238, 24, 10}, {24454, 7248, 17, 10}, {24472, 7258, 18, 10}, {24491, 7268, 34, 10},
+    {24526, 7268, 27, 10}, {24554, 7278, 9, 10}, {24576, 7288, 11, 10}, {24588, 7298, 13, 10}, {24602, 7308, 29, 10},
+    {24632, 7318, 39, 10}, {24672, 7328, 15, 10}, {24688, 7338, 17, 10}, {24706, 7348, 14, 10}, {24721, 7358, 35, 10},
+    {24757, 7368, 15, 10}, {24773, 7378, 17, 10}, {24791, 7388, 10, 10}, {24802, 7398, 13, 9}, {24816, 7407, 17, 9},
+    {24834, 7416, 5, 9}, {24840, 7425, 4, 9}, {24845, 7434, 7, 9}, {24853, 7443, 6, 9}, {24860, 7452, 10, 9},
+    {24871, 7461, 4, 9}, {24876, 7470, 13, 9}, {24890, 7479, 6, 9}, {24897, 7488, 9, 9}, {24907, 7497, 24, 9},
+    {24932, 7506, 6, 9}, {24939, 7515, 22, 9}, {24962, 7524, 20, 10}, {24983, 7534, 22, 10}, {25006, 7544, 20, 10},
+    {25027, 7554, 26, 10}, {25054, 7564, 7, 11}, {25062, 7575, 11, 12}, {25088, 7587, 16, 12}, {25105, 7599, 18, 12},
+    {25124, 7611, 11, 9}, {25136, 7620, 30, 9}, {25167, 7629, 15, 10}, {25183, 7639, 22, 10}, {25206, 7649, 24, 9},
+    {25231, 7658, 16, 9}, {25248, 7667, 9, 9}, {25258, 7680, 20, 9}, {25279, 7689, 13, 9}, {25293, 7698, 20, 9},
+    {25314, 7707, 21, 9}, {25336, 7716, 11, 9}, {25348, 7725, 9, 9}, {25358, 7734, 29, 9}, {25388, 7743, 11, 9},
+    {25400, 7752, 11, 9}, {25412, 7761, 22, 9}, {25435, 7770, 19, 9}, {25455, 7779, 19, 9}, {25475, 7788, 18, 9},
+    {25494, 7797, 21, 9}, {25516, 7806, 19, 9}, {25536, 7815, 19, 9}, {25556, 7824, 16, 9}, {25573, 7833, 22, 9},
+    {25600, 7842, 18, 9}, {25619, 7851, 20, 9}, {25640, 7860, 20, 9}, {25661, 7869, 23, 9}, {25685, 7878, 23, 9},
+    {25709, 7887, 19, 9}, {25729, 7896, 24, 9}, {25754, 7905, 27, 9}, {25782, 7914, 24, 9}, {25807, 7923, 3, 1},
+    {25811, 7923, 3, 1}, {25815, 7923, 23, 1}, {25839, 7924, 17, 5}, {25857, 7929, 3, 2}, {25861, 7929, 3, 2},
+    {25865, 7931, 8, 3}, {25874, 7931, 4, 3}, {25879, 7931, 4, 3}, {25884, 7934, 9, 4}, {25894, 7934, 9, 4},
+    {25904, 7938, 9, 7}, {25914, 7945, 9, 7}, {25924, 7952, 5, 7}, {25930, 7959, 13, 7}, {25944, 7959, 17, 7},
+    {25962, 7966, 10, 7}, {25973, 7973, 16, 7}, {25990, 7980, 9, 7}, {26000, 7987, 9, 7}, {26010, 7994, 13, 7},
+    {26024, 8001, 14, 7}, {26039, 8008, 12, 7}, {26052, 8015, 10, 7}, {26063, 8022, 9, 7}, {26073, 8029, 17, 7},
+    {26091, 8036, 17, 7}, {26112, 8043, 13, 7}, {26126, 8050, 17, 7}, {26144, 8057, 16, 7}, {26161, 8064, 12, 7},
+    {26174, 8071, 12, 7}, {26187, 8078, 15, 7}, {26203, 8085, 15, 7}, {26219, 8092, 10, 7}, {26230, 8099, 13, 7},
+    {26244, 8106, 8, 7}, {26253, 8113, 10, 7}, {26264, 8120, 11, 7}, {26276, 8127, 16, 7}, {26293, 8134, 12, 7},
+    {26306, 8141, 20, 7}, {26327, 8148, 12, 7}, {26340, 8155, 13, 7}, {26354, 8162, 10, 7}, {26365, 8169, 9, 7},
+    {26375, 8176, 10, 7}, {26386, 8192, 6, 7}, {26393, 8199, 6, 7}, {26400, 8206, 9, 7}, {26410, 8213, 11, 7},
+    {26422, 8220, 6, 7}, {26429, 8227, 9, 7}, {26439, 8234, 13, 7}, {26453, 8241, 14, 7}, {26468, 8248, 12, 7},
+    {26481, 8255, 9, 7}, {26491, 8262, 10, 5}, {26502, 8267, 13, 5}, {26516, 8272, 16, 5}, {26533, 8277, 19, 5},
+    {26553, 8282, 21, 6}, {26575, 8288, 22, 6}, {26624, 8294, 29, 5}, {26654, 8299, 14, 5}, {26669, 8304, 8, 5},
+    {26678, 8309, 24, 5}, {26703, 8314, 4, 4}, {26708, 8314, 10, 4}, {26719, 8318, 5, 5}, {26725, 8323, 6, 6},
+    {26732, 8329, 8, 7}, {26741, 8336, 11, 7}, {26753, 8343, 9, 7}, {26763, 8350, 17, 8}, {26781, 8358, 10, 7},
+    {26792, 8365, 7, 7}, {26800, 8372, 11, 7}, {26812, 8379, 11, 7}, {26824, 8386, 15, 7}, {26840, 8393, 10, 7},
+    {26851, 8400, 10, 8}, {26862, 8408, 10, 9}, {26873, 8417, 7, 9}, {26881, 8426, 10, 9}, {26892, 8435, 11, 9},
+    {26904, 8444, 10, 6}, {26915, 8450, 8, 7}, {26924, 8457, 7, 7}, {26932, 8464, 7, 8}, {26940, 8472, 7, 9},
+    {26948, 8481, 7, 9}, {26956, 8490, 6, 9}, {26963, 8499, 5, 9}, {26969, 8508, 7, 9}, {26977, 8517, 13, 9},
+    {26991, 8526, 13, 9}, {27005, 8535, 12, 9}, {27018, 8544, 12, 9}, {27031, 8553, 10, 9}, {27042, 8562, 13, 9},
+    {27056, 8571, 14, 9}, {27071, 8580, 12, 9}, {27084, 8589, 10, 9}, {27095, 8598, 17, 9}, {27113, 8607, 11, 9},
+    {27136, 8616, 14, 9}, {27151, 8625, 15, 9}, {27167, 8634, 13, 9}, {27181, 8643, 11, 9}, {27193, 8652, 9, 9},
+    {27203, 8661, 10, 9}, {27214, 8670, 2, 6}, {27217, 8676, 7, 7}, {27225, 8683, 7, 8}, {27233, 8691, 9, 9},
+    {27243, 8704, 13, 9}, {27257, 8713, 12, 9}, {27270, 8722, 2, 6}, {27273, 8728, 12, 7}, {27286, 8735, 12, 7},
+    {27299, 8742, 12, 7}, {27312, 8749, 13, 7}, {27326, 8756, 14, 7}, {27341, 8763, 15, 7}, {27357, 8770, 17, 7},
+    {27375, 8777, 12, 7}, {27388, 8784, 12, 7}, {27401, 8791, 13, 7}, {27415, 8798, 13, 7}, {27429, 8805, 13, 7},
+    {27443, 8812, 14, 7}, {27458, 8819, 12, 7}, {27471, 8826, 10, 7}, {27482, 8833, 12, 7}, {27495, 8840, 9, 7},
+    {27505, 8847, 11, 7}, {27517, 8854, 13, 7}, {27531, 8861, 11, 7}, {27543, 8868, 11, 8}, {27555, 8876, 11, 9},
+    {27567, 8885, 14, 9}, {27582, 8894, 14, 9}, {27597, 8903, 16, 9}, {27614, 8912, 19, 9}, {27648, 8921, 12, 7},
+    {27661, 8928, 12, 8}, {27674, 8936, 11, 9}, {27686, 8945, 14, 9}, {27701, 8954, 14, 9}, {27716, 8963, 14, 9},
+    {27731, 8972, 14, 9}, {27746, 8981, 14, 9}, {27761, 8990, 14, 9}, {27776, 8999, 11, 9}, {27788, 9008, 12, 9},
+    {27801, 9017, 10, 9}, {27812, 9026, 11, 9}, {27824, 9035, 14, 9}, {27839, 9044, 11, 9}, {27851, 9053, 17, 7},
+    {27869, 9060, 17, 8}, {27887, 9068, 19, 9}, {27907, 9077, 23, 9}, {27931, 9086, 22, 9}, {27954, 9095, 16, 9},
+    {27971, 9104, 17, 7}, {27989, 9111, 9, 7}, {27999, 9118, 15, 8}, {28015, 9126, 14, 8}, {28030, 9134, 14, 9},
+    {28045, 9143, 13, 10}, {28059, 9153, 13, 10}, {28073, 9163, 15, 10}, {28089, 9173, 16, 10}, {28106, 9183, 16, 10},
+    {28123, 9193, 13, 10}, {28137, 9203, 14, 10}, {28160, 9216, 12, 10}, {28173, 9226, 13, 10}, {28187, 9236, 18, 10},
+    {28206, 9246, 16, 10}, {28223, 9256, 16, 10}, {28240, 9266, 16, 10}, {28257, 9276, 16, 10}, {28274, 9286, 16, 10},
+    {28291, 9296, 17, 8}, {28309, 9304, 16, 8}, {28326, 9312, 16, 9}, {28343, 9321, 15, 10}, {28359, 9331, 15, 10},
+    {28375, 9341, 14, 10}, {28390, 9351, 18, 10}, {28409, 9361, 18, 10}, {28428, 9371, 15, 10}, {28444, 9381, 16, 10},
+    {28461, 9391, 14, 10}, {28476, 9401, 15, 10}, {28492, 9411, 20, 10}, {28513, 9421, 18, 10}, {28532, 9431, 18, 10},
+    {28551, 9441, 18, 10}, {28570, 9451, 18, 10}, {28589, 9461, 18, 10}, {28608, 9471, 17, 10}, {28626, 9481, 19, 8},
+    {28646, 9489, 18, 8}, {28672, 9497, 18, 9}, {28691, 9506, 21, 10}, {28713, 9516, 17, 10}, {28731, 9526, 19, 10},
+    {28751, 9536, 19, 10}, {28771, 9546, 24, 10}, {28796, 9556, 20, 10}, {28817, 9566, 20, 10}, {28838, 9576, 17, 10},
+    {28856, 9586, 18, 10}, {28875, 9596, 16, 10}, {28892, 9606, 22, 10}, {28915, 9616, 20, 10}, {28936, 9626, 20, 10},
+    {28957, 9636, 20, 10}, {28978, 9646, 20, 10}, {28999, 9656, 20, 10}, {29020, 9666, 19, 10}, {29040, 9676, 21, 8},
+    {29062, 9684, 16, 7}, {29079, 9691, 21, 7}, {29101, 9698, 28, 7}, {29130, 9705, 18, 7}, {29149, 9712, 18, 8},
+    {29184, 9728, 20, 9}, {29205, 9737, 25, 9}, {29231, 9746, 25, 9}, {29257, 9755, 27, 9}, {29285, 9764, 28, 7},
+    {29314, 9771, 18, 7}, {29333, 9778, 18, 8}, {29352, 9786, 20, 9}, {29373, 9795, 25, 9}, {29399, 9804, 23, 9},
+    {29423, 9813, 25, 9}, {29449, 9822, 26, 9}, {29476, 9831, 27, 9}, {29504, 9840, 23, 9}, {29528, 9849, 14, 7},
+    {29543, 9856, 18, 8}, {29562, 9864, 18, 9}, {29581, 9873, 22, 10}, {29604, 9883, 23, 10}, {29628, 9893, 25, 10},
+    {29654, 9903, 21, 10}, {29696, 9913, 23, 10}, {29720, 9923, 24, 10}, {29745, 9933, 23, 10}, {29769, 9943, 25, 10},
+    {29795, 9953, 28, 10}, {29824, 9963, 28, 10}, {29853, 9973, 28, 10}, {29882, 9983, 30, 10}, {29913, 9993, 23, 10},
+    {29937, 10003, 21, 10}, {29959, 10013, 23, 10}, {29983, 10023, 23, 10}, {30007, 10033, 23, 10},
+    {30031, 10043, 25, 10}, {30057, 10053, 24, 10}, {30082, 10063, 26, 10}, {30109, 10073, 24, 10},
+    {30134, 10083, 29, 10}, {30164, 10093, 31, 10}, {30208, 10103, 24, 10}, {30233, 10113, 25, 10},
+    {30259, 10123, 23, 10}, {30283, 10133, 25, 10}, {30309, 10143, 27, 10}, {30337, 10153, 25, 10},
+    {30363, 10163, 27, 10}, {30391, 10173, 22, 10}, {30414, 10183, 24, 10}, {30439, 10193, 24, 10},
+    {30464, 10203, 26, 10}, {30491, 10213, 26, 10}, {30518, 10223, 28, 10}, {30547, 10240, 25, 10},
+    {30573, 10250, 27, 10}, {30601, 10260, 27, 10}, {30629, 10270, 29, 10}, {30659, 10280, 24, 10},
+    {30684, 10290, 26, 10}, {30720, 10300, 25, 10}, {30746, 10310, 27, 10}, {30774, 10320, 30, 10},
+    {30805, 10330, 24, 10}, {30830, 10340, 24, 8}, {30855, 10348, 14, 8}, {30870, 10356, 14, 9}, {30885, 10365, 18, 10},
+    {30904, 10375, 16, 10}, {30921, 10385, 19, 10}, {30941, 10395, 21, 10}, {30963, 10405, 17, 10},
+    {30981, 10415, 19, 10}, {31001, 10425, 20, 10}, {31022, 10435, 19, 10}, {31042, 10445, 21, 10},
+    {31064, 10455, 24, 10}, {31089, 10465, 24, 10}, {31114, 10475, 24, 10}, {31139, 10485, 26, 10},
+    {31166, 10495, 19, 10}, {31186, 10505, 17, 10}, {31204, 10515, 19, 10}, {31232, 10525, 19, 10},
+    {31252, 10535, 19, 10}, {31272, 10545, 21, 10}, {31294, 10555, 20, 10}, {31315, 10565, 22, 10},
+    {31338, 10575, 25, 10}, {31364, 10585, 27, 10}, {31392, 10595, 20, 10}, {31413, 10605, 21, 10},
+    {31435, 10615, 19, 10}, {31455, 10625, 21, 10}, {31477, 10635, 23, 10}, {31501, 10645, 21, 10},
+    {31523, 10655, 23, 10}, {31547, 10665, 18, 10}, {31566, 10675, 20, 10}, {31587, 10685, 20, 10},
+    {31608, 10695, 22, 10}, {31631, 10705, 22, 10}, {31654, 10715, 24, 10}, {31679, 10725, 21, 10},
+    {31701, 10735, 23, 10}, {31744, 10752, 23, 10}, {31768, 10762, 25, 10}, {31794, 10772, 20, 10},
+    {31815, 10782, 22, 10}, {31838, 10792, 21, 10}, {31860, 10802, 23, 10}, {31884, 10812, 26, 10},
+    {31911, 10822, 20, 10}, {31932, 10832, 20, 7}, {31953, 10839, 20, 8}, {31974, 10847, 22, 9}, {31997, 10856, 19, 9},
+    {32017, 10865, 21, 9}, {32039, 10874, 21, 9}, {32061, 10883, 21, 9}, {32083, 10892, 25, 9}, {32109, 10901, 29, 9},
+    {32139, 10910, 35, 9}, {32175, 10919, 31, 9}, {32207, 10928, 17, 7}, {32225, 10935, 14, 7}, {32256, 10942, 14, 8},
+    {32271, 10950, 17, 9}, {32289, 10959, 13, 9}, {32303, 10968, 16, 9}, {32320, 10977, 13, 9}, {32334, 10986, 15, 9},
+    {32350, 10995, 15, 9}, {32366, 11004, 15, 9}, {32382, 11013, 16, 9}, {32399, 11022, 20, 9}, {32420, 11031, 18, 9},
+    {32439, 11040, 20, 9}, {32460, 11049, 20, 7}, {32481, 11056, 20, 8}, {32502, 11064, 22, 9}, {32525, 11073, 29, 9},
+    {32555, 11082, 25, 9}, {32581, 11091, 26, 9}, {32608, 11100, 26, 9}, {32635, 11109, 19, 9}, {32655, 11118, 20, 9},
+    {32676, 11127, 24, 9}, {32701, 11136, 23, 7}, {32725, 11143, 23, 8}, {32768, 11151, 25, 9}, {32794, 11160, 27, 9},
+    {32822, 11169, 19, 9}, {32842, 11178, 28, 9}, {32871, 11187, 27, 9}, {32899, 11196, 19, 9}, {32919, 11205, 19, 9},
+    {32939, 11214, 35, 9}, {32975, 11223, 19, 9}, {32995, 11232, 19, 9}, {33015, 11241, 19, 9}, {33035, 11250, 19, 9},
+    {33055, 11264, 19, 9}, {33075, 11273, 20, 7}, {33096, 11280, 20, 8}, {33117, 11288, 26, 9}, {33144, 11297, 22, 9},
+    {33167, 11306, 22, 9}, {33190, 11315, 23, 9}, {33214, 11324, 25, 9}, {33240, 11333, 24, 7}, {33280, 11340, 21, 7},
+    {33302, 11347, 21, 8}, {33324, 11355, 23, 9}, {33348, 11364, 27, 9}, {33376, 11373, 27, 9}, {33404, 11382, 27, 9},
+    {33432, 11391, 27, 9}, {33460, 11400, 31, 9}, {33492, 11409, 23, 9}, {33516, 11418, 29, 9}, {33546, 11427, 30, 9},
+    {33577, 11436, 27, 9}, {33605, 11445, 31, 9}, {33637, 11454, 25, 9}, {33663, 11463, 4, 6}, {33668, 11469, 10, 7},
+    {33679, 11476, 12, 7}, {33692, 11483, 18, 7}, {33711, 11490, 15, 7}, {33727, 11497, 15, 7}, {33743, 11504, 16, 7},
+    {33760, 11511, 15, 7}, {33776, 11518, 11, 7}, {33792, 11525, 14, 7}, {33807, 11532, 16, 7}, {33824, 11539, 19, 7},
+    {33844, 11546, 15, 7}, {33860, 11553, 18, 7}, {33879, 11560, 11, 7}, {33891, 11567, 13, 7}, {33905, 11574, 19, 7},
+    {33925, 11581, 16, 7}, {33942, 11588, 16, 7}, {33959, 11595, 17, 7}, {33977, 11602, 16, 7}, {33994, 11609, 12, 7},
+    {34007, 11616, 15, 7}, {34023, 11623, 17, 7}, {34041, 11630, 20, 7}, {34062, 11637, 16, 7}, {34079, 11644, 19, 7},
+    {34099, 11651, 14, 7}, {34114, 11658, 14, 8}, {34129, 11666, 18, 9}, {34148, 11675, 15, 9}, {34164, 11684, 17, 9},
+    {34182, 11693, 16, 9}, {34199, 11702, 18, 9}, {34218, 11711, 17, 7}, {34236, 11718, 17, 8}, {34254, 11726, 21, 9},
+    {34276, 11735, 16, 9}, {34304, 11744, 18, 9}, {34323, 11753, 19, 9}, {34343, 11762, 3, 6}, {34347, 11776, 15, 7},
+    {34363, 11783, 9, 7}, {34373, 11790, 9, 7}, {34383, 11797, 10, 7}, {34394, 11804, 14, 7}, {34409, 11811, 15, 7},
+    {34425, 11818, 15, 7}, {34441, 11825, 14, 7}, {34456, 11832, 12, 7}, {34469, 11839, 9, 7}, {34479, 11846, 10, 7},
+    {34490, 11853, 14, 7}, {34505, 11860, 12, 7}, {34518, 11867, 12, 8}, {34531, 11875, 12, 9}, {34544, 11884, 19, 9},
+    {34564, 11893, 16, 9}, {34581, 11902, 17, 9}, {34599, 11911, 14, 9}, {34614, 11920, 9, 7}, {34624, 11927, 10, 7},
+    {34635, 11934, 11, 7}, {34647, 11941, 12, 7}, {34660, 11948, 18, 7}, {34679, 11955, 18, 8}, {34698, 11963, 29, 9},
+    {34728, 11972, 25, 9}, {34754, 11981, 22, 9}, {34777, 11990, 27, 9}, {34816, 11999, 23, 9}, {34840, 12008, 20, 9},
+    {34861, 12017, 18, 9}, {34880, 12026, 20, 9}, {34901, 12035, 16, 7}, {34918, 12042, 16, 8}, {34935, 12050, 27, 9},
+    {34963, 12059, 23, 9}, {34987, 12068, 20, 9}, {35008, 12077, 18, 9}, {35027, 12086, 3, 6}, {35031, 12092, 14, 7},
+    {35046, 12099, 10, 7}, {35057, 12106, 11, 7}, {35069, 12113, 15, 7}, {35085, 12120, 8, 7}, {35094, 12127, 8, 8},
+    {35103, 12135, 15, 9}, {35119, 12144, 12, 9}, {35132, 12153, 16, 7}, {35149, 12160, 16, 8}, {35166, 12168, 27, 9},
+    {35194, 12177, 23, 9}, {35218, 12186, 20, 9}, {35239, 12195, 28, 9}, {35268, 12204, 24, 9}, {35293, 12213, 21, 9},
+    {35328, 12222, 19, 9}, {35348, 12231, 18, 9}, {35367, 12240, 16, 7}, {35384, 12247, 17, 7}, {35402, 12254, 3, 6},
+    {35406, 12260, 9, 7}, {35416, 12267, 11, 7}, {35428, 12274, 10, 7}, {35439, 12288, 12, 7}, {35452, 12295, 13, 7},
+    {35466, 12302, 13, 8}, {35480, 12310, 13, 9}, {35494, 12319, 12, 9}, {35507, 12328, 10, 9}, {35518, 12337, 14, 9},
+    {35533, 12346, 14, 9}, {35548, 12355, 15, 9}, {35564, 12364, 15, 9}, {35580, 12373, 17, 9}, {35598, 12382, 18, 9},
+    {35617, 12391, 16, 9}, {35634, 12400, 18, 9}, {35653, 12409, 21, 9}, {35675, 12418, 20, 9}, {35696, 12427, 12, 9},
+    {35709, 12436, 20, 9}, {35730, 12445, 5, 7}, {35736, 12452, 12, 6}, {35749, 12458, 4, 7}, {35754, 12465, 14, 8},
+    {35769, 12473, 14, 9}, {35784, 12482, 14, 10}, {35799, 12492, 24, 10}, {35840, 12502, 18, 10},
+    {35859, 12512, 30, 10}, {35890, 12522, 32, 10}, {35923, 12532, 22, 10}, {35946, 12542, 30, 10},
+    {35977, 12552, 23, 10}, {36001, 12562, 28, 10}, {36030, 12572, 34, 10}, {36065, 12582, 27, 10},
+    {36093, 12592, 22, 10}, {36116, 12602, 33, 10}, {36150, 12612, 21, 10}, {36172, 12622, 21, 10},
+    {36194, 12632, 21, 10}, {36216, 12642, 27, 10}, {36244, 12652, 26, 10}, {36271, 12662, 13, 8},
+    {36285, 12670, 13, 9}, {36299, 12679, 13, 10}, {36313, 12689, 19, 10}, {36333, 12699, 9, 8}, {36352, 12707, 11, 9},
+    {36364, 12716, 16, 9}, {36381, 12725, 10, 8}, {36392, 12733, 18, 9}, {36411, 12742, 22, 9}, {36434, 12751, 16, 8},
+    {36451, 12759, 16, 9}, {36468, 12768, 29, 10}, {36498, 12778, 27, 10}, {36526, 12800, 29, 10},
+    {36556, 12810, 14, 8}, {36571, 12818, 14, 9}, {36586, 12827, 18, 10}, {36605, 12837, 17, 10},
+    {36623, 12847, 17, 10}, {36641, 12857, 18, 10}, {36660, 12867, 19, 10}, {36680, 12877, 20, 10},
+    {36701, 12887, 16, 8}, {36718, 12895, 16, 9}, {36735, 12904, 26, 10}, {36762, 12914, 20, 10},
+    {36783, 12924, 36, 10}, {36820, 12934, 24, 10}, {36864, 12944, 35, 10}, {36900, 12954, 23, 10},
+    {36924, 12964, 4, 6}, {36929, 12970, 10, 7}, {36940, 12977, 11, 7}, {36952, 12984, 17, 7}, {36970, 12991, 23, 7},
+    {36994, 12998, 22, 7}, {37017, 13005, 18, 7}, {37036, 13012, 13, 7}, {37050, 13019, 17, 7}, {37068, 13026, 15, 7},
+    {37084, 13033, 15, 7}, {37100, 13040, 13, 7}, {37114, 13047, 18, 7}, {37133, 13054, 18, 7}, {37152, 13061, 17, 7},
+    {37170, 13068, 14, 7}, {37185, 13075, 17, 7}, {37203, 13082, 18, 7}, {37222, 13089, 11, 7}, {37234, 13096, 14, 7},
+    {37249, 13103, 18, 7}, {37268, 13110, 16, 7}, {37285, 13117, 14, 7}, {37300, 13124, 18, 7}, {37319, 13131, 15, 7},
+    {37335, 13138, 18, 7}, {37376, 13145, 19, 7}, {37396, 13152, 12, 7}, {37409, 13159, 21, 7}, {37431, 13166, 15, 7},
+    {37447, 13173, 14, 7}, {37462, 13180, 3, 6}, {37466, 13186, 15, 7}, {37482, 13193, 26, 8}, {37509, 13201, 28, 8},
+    {37538, 13209, 10, 7}, {37549, 13216, 10, 7}, {37560, 13223, 12, 7}, {37573, 13230, 12, 8}, {37586, 13238, 17, 9},
+    {37604, 13247, 12, 9}, {37617, 13256, 18, 9}, {37636, 13265, 24, 9}, {37661, 13274, 16, 9}, {37678, 13283, 16, 9},
+    {37695, 13292, 17, 9}, {37713, 13312, 17, 9}, {37731, 13321, 15, 9}, {37747, 13330, 16, 9}, {37764, 13339, 17, 9},
+    {37782, 13348, 22, 9}, {37805, 13357, 23, 9}, {37829, 13366, 16, 9}, {37846, 13375, 32, 9}, {37888, 13384, 25, 9},
+    {37914, 13393, 27, 9}, {37942, 13402, 15, 9}, {37958, 13411, 16, 9}, {37975, 13420, 25, 9}, {38001, 13429, 26, 9},
+    {38028, 13438, 31, 9}, {38060, 13447, 36, 9}, {38097, 13456, 26, 9}, {38124, 13465, 13, 7}, {38138, 13472, 20, 7},
+    {38159, 13479, 16, 8}, {38176, 13487, 15, 9}, {38192, 13496, 22, 9}, {38215, 13505, 17, 9}, {38233, 13514, 17, 9},
+    {38251, 13523, 18, 9}, {38270, 13532, 24, 9}, {38295, 13541, 17, 7}, {38313, 13548, 17, 8}, {38331, 13556, 16, 9},
+    {38348, 13565, 27, 9}, {38400, 13574, 24, 9}, {38425, 13583, 18, 9}, {38444, 13592, 25, 9}, {38470, 13601, 19, 9},
+    {38490, 13610, 25, 9}, {38516, 13619, 21, 9}, {38538, 13628, 27, 9}, {38566, 13637, 24, 9}, {38591, 13646, 26, 9},
+    {38618, 13655, 25, 9}, {38644, 13664, 16, 9}, {38661, 13673, 19, 9}, {38681, 13682, 8, 7}, {38690, 13689, 14, 8},
+    {38705, 13697, 21, 8}, {38727, 13705, 4, 6}, {38732, 13711, 12, 7}, {38745, 13718, 11, 8}, {38757, 13726, 12, 8},
+    {38770, 13734, 10, 7}, {38781, 13741, 15, 8}, {38797, 13749, 15, 9}, {38813, 13758, 15, 10}, {38829, 13768, 20, 10},
+    {38850, 13778, 20, 10}, {38871, 13788, 16, 10}, {38888, 13798, 14, 10}, {38912, 13808, 23, 10},
+    {38936, 13824, 23, 10}, {38960, 13834, 24, 10}, {38985, 13844, 23, 10}, {39009, 13854, 22, 10},
+    {39032, 13864, 19, 10}, {39052, 13874, 17, 10}, {39070, 13884, 20, 10}, {39091, 13894, 22, 10},
+    {39114, 13904, 27, 10}, {39142, 13914, 28, 10}, {39171, 13924, 28, 10}, {39200, 13934, 29, 10},
+    {39230, 13944, 30, 10}, {39261, 13954, 15, 10}, {39277, 13964, 16, 10}, {39294, 13974, 7, 7}, {39302, 13981, 19, 8},
+    {39322, 13989, 19, 9}, {39342, 13998, 19, 10}, {39362, 14008, 24, 10}, {39387, 14018, 30, 10},
+    {39424, 14028, 28, 10}, {39453, 14038, 22, 10}, {39476, 14048, 19, 10}, {39496, 14058, 20, 10},
+    {39517, 14068, 17, 8}, {39535, 14076, 17, 9}, {39553, 14085, 17, 10}, {39571, 14095, 23, 10},
+    {39595, 14105, 25, 10}, {39621, 14115, 22, 10}, {39644, 14125, 18, 10}, {39663, 14135, 16, 10},
+    {39680, 14145, 25, 10}, {39706, 14155, 25, 10}, {39732, 14165, 26, 10}, {39759, 14175, 25, 10},
+    {39785, 14185, 24, 10}, {39810, 14195, 21, 10}, {39832, 14205, 19, 10}, {39852, 14215, 22, 10},
+    {39875, 14225, 23, 10}, {39899, 14235, 5, 7}, {39905, 14242, 10, 8}, {39916, 14250, 10, 9}, {39936, 14259, 10, 10},
+    {39947, 14269, 13, 10}, {39961, 14279, 13, 10}, {39975, 14289, 15, 10}, {39991, 14299, 10, 10},
+    {40002, 14309, 17, 10}, {40020, 14319, 20, 10}, {40041, 14336, 21, 10}, {40063, 14346, 21, 10},
+    {40085, 14356, 22, 10}, {40108, 14366, 10, 10}, {40119, 14376, 11, 10}, {40131, 14386, 5, 7}, {40137, 14393, 16, 8},
+    {40154, 14401, 16, 9}, {40171, 14410, 16, 10}, {40188, 14420, 21, 10}, {40210, 14430, 20, 10},
+    {40231, 14440, 25, 10}, {40257, 14450, 16, 10}, {40274, 14460, 17, 10}, {40292, 14470, 9, 8}, {40302, 14478, 9, 9},
+    {40312, 14487, 11, 10}, {40324, 14497, 17, 10}, {40342, 14507, 9, 10}, {40352, 14517, 10, 10},
+    {40363, 14527, 11, 10}, {40375, 14537, 12, 10}, {40388, 14547, 13, 10}, {40402, 14557, 13, 10},
+    {40416, 14567, 20, 10}, {40448, 14577, 20, 10}, {40469, 14587, 13, 8}, {40483, 14595, 13, 9},
+    {40497, 14604, 15, 10}, {40513, 14614, 21, 10}, {40535, 14624, 13, 10}, {40549, 14634, 14, 10},
+    {40564, 14644, 15, 10}, {40580, 14654, 16, 10}, {40597, 14664, 17, 10}, {40615, 14674, 17, 10},
+    {40633, 14684, 24, 10}, {40658, 14694, 24, 10}, {40683, 14704, 8, 7}, {40692, 14711, 20, 8}, {40713, 14719, 20, 9},
+    {40734, 14728, 20, 10}, {40755, 14738, 17, 10}, {40773, 14748, 16, 10}, {40790, 14758, 21, 10},
+    {40812, 14768, 16, 10}, {40829, 14778, 21, 10}, {40851, 14788, 19, 10}, {40871, 14798, 17, 10},
+    {40889, 14808, 13, 10}, {40903, 14818, 14, 10}, {40918, 14828, 13, 8}, {40932, 14836, 13, 9},
+    {40960, 14848, 14, 10}, {40975, 14858, 13, 10}, {40989, 14868, 15, 10}, {41005, 14878, 12, 10},
+    {41018, 14888, 6, 7}, {41025, 14895, 18, 8}, {41044, 14903, 18, 9}, {41063, 14912, 18, 10}, {41082, 14922, 23, 10},
+    {41106, 14932, 22, 10}, {41129, 14942, 27, 10}, {41157, 14952, 18, 10}, {41176, 14962, 19, 10},
+    {41196, 14972, 13, 8}, {41210, 14980, 13, 9}, {41224, 14989, 21, 10}, {41246, 14999, 19, 10},
+    {41266, 15009, 13, 10}, {41280, 15019, 12, 10}, {41293, 15029, 14, 10}, {41308, 15039, 14, 10},
+    {41323, 15049, 13, 8}, {41337, 15057, 13, 9}, {41351, 15066, 21, 10}, {41373, 15076, 19, 10},
+    {41393, 15086, 13, 10}, {41407, 15096, 12, 10}, {41420, 15106, 14, 10}, {41435, 15116, 14, 10},
+    {41450, 15126, 6, 7}, {41457, 15133, 11, 8}, {41472, 15141, 11, 9}, {41484, 15150, 11, 10}, {41496, 15160, 18, 10},
+    {41515, 15170, 19, 10}, {41535, 15180, 13, 10}, {41549, 15190, 17, 10}, {41567, 15200, 20, 10},
+    {41588, 15210, 15, 10}, {41604, 15220, 19, 10}, {41624, 15230, 22, 10}, {41647, 15240, 11, 10},
+    {41659, 15250, 12, 10}, {41672, 15260, 12, 8}, {41685, 15268, 12, 9}, {41698, 15277, 12, 10},
+    {41711, 15287, 14, 10}, {41726, 15297, 17, 10}, {41744, 15307, 18, 10}, {41763, 15317, 23, 10},
+    {41787, 15327, 24, 10}, {41812, 15337, 17, 10}, {41830, 15347, 18, 10}, {41849, 15360, 14, 10},
+    {41864, 15370, 18, 10}, {41883, 15380, 12, 10}, {41896, 15390, 13, 10}, {41910, 15400, 7, 7}, {41918, 15407, 18, 8},
+    {41937, 15415, 18, 9}, {41956, 15424, 18, 10}, {41984, 15434, 25, 10}, {42010, 15444, 23, 10},
+    {42034, 15454, 23, 10}, {42058, 15464, 29, 10}, {42088, 15474, 30, 10}, {42119, 15484, 27, 10},
+    {42147, 15494, 31, 10}, {42179, 15504, 29, 10}, {42209, 15514, 28, 10}, {42238, 15524, 23, 10},
+    {42262, 15534, 18, 10}, {42281, 15544, 19, 10}, {42301, 15554, 18, 8}, {42320, 15562, 18, 9},
+    {42339, 15571, 25, 10}, {42365, 15581, 18, 10}, {42384, 15591, 21, 10}, {42406, 15601, 23, 10},
+    {42430, 15611, 25, 10}, {42456, 15621, 23, 10}, {42496, 15631, 25, 10}, {42522, 15641, 5, 7}, {42528, 15648, 10, 8},
+    {42539, 15656, 10, 9}, {42550, 15665, 10, 10}, {42561, 15675, 16, 10}, {42578, 15685, 9, 10},
+    {42588, 15695, 14, 10}, {42603, 15705, 17, 10}, {42621, 15715, 10, 10}, {42632, 15725, 11, 10},
+    {42644, 15735, 8, 8}, {42653, 15743, 8, 9}, {42662, 15752, 13, 10}, {42676, 15762, 8, 10}, {42685, 15772, 7, 10},
+    {42693, 15782, 14, 10}, {42708, 15792, 13, 8}, {42722, 15800, 11, 6}, {42734, 15806, 18, 7}, {42753, 15813, 7, 8},
+    {42761, 15821, 14, 8}, {42776, 15829, 9, 7}, {42786, 15836, 22, 8}, {42809, 15844, 17, 8}, {42827, 15852, 13, 8},
+    {42841, 15860, 18, 8}, {42860, 15872, 18, 9}, {42879, 15881, 13, 10}, {42893, 15891, 20, 10},
+    {42914, 15901, 20, 10}, {42935, 15911, 34, 10}, {42970, 15921, 32, 10}, {43008, 15931, 8, 7}, {43017, 15938, 29, 8},
+    {43047, 15946, 16, 8}, {43064, 15954, 31, 8}, {43096, 15962, 18, 8}, {43115, 15970, 22, 8}, {43138, 15978, 16, 8},
+    {43155, 15986, 16, 8}, {43172, 15994, 14, 8}, {43187, 16002, 17, 8}, {43205, 16010, 16, 8}, {43222, 16018, 20, 8},
+    {43243, 16026, 20, 8}, {43264, 16034, 23, 8}, {43288, 16042, 26, 8}, {43315, 16050, 17, 8}, {43333, 16058, 17, 9},
+    {43351, 16067, 12, 10}, {43364, 16077, 20, 10}, {43385, 16087, 17, 10}, {43403, 16097, 18, 10},
+    {43422, 16107, 20, 10}, {43443, 16117, 26, 10}, {43470, 16127, 26, 10}, {43520, 16137, 28, 10},
+    {43549, 16147, 26, 10}, {43576, 16157, 30, 10}, {43607, 16167, 22, 10}, {43630, 16177, 7, 7}, {43638, 16184, 7, 7},
+    {43646, 16191, 27, 8}, {43674, 16199, 16, 8}, {43691, 16207, 15, 8}, {43707, 16215, 15, 9}, {43723, 16224, 17, 10},
+    {43741, 16234, 14, 10}, {43756, 16244, 16, 10}, {43773, 16254, 16, 8}, {43790, 16262, 16, 9},
+    {43807, 16271, 11, 10}, {43819, 16281, 18, 10}, {43838, 16291, 19, 10}, {43858, 16301, 20, 10},
+    {43879, 16311, 21, 10}, {43901, 16321, 11, 7}, {43913, 16328, 16, 8}, {43930, 16336, 16, 9}, {43947, 16345, 18, 10},
+    {43966, 16355, 22, 10}, {43989, 16365, 24, 10}, {44032, 16384, 17, 10}, {44050, 16394, 10, 7},
+    {44061, 16401, 17, 8}, {44079, 16409, 9, 9}, {44089, 16418, 22, 10}, {44112, 16428, 14, 10}, {44127, 16438, 22, 10},
+    {44150, 16448, 13, 10}, {44164, 16458, 15, 10}, {44180, 16468, 7, 9}, {44188, 16477, 13, 10},
+    {44202, 16487, 13, 11}, {44216, 16498, 10, 12}, {44227, 16510, 20, 12}, {44248, 16522, 15, 10},
+    {44264, 16532, 15, 11}, {44280, 16543, 17, 12}, {44298, 16555, 14, 12}, {44313, 16567, 16, 12},
+    {44330, 16579, 17, 10}, {44348, 16589, 17, 11}, {44366, 16600, 19, 12}, {44386, 16612, 23, 12},
+    {44410, 16624, 18, 12}, {44429, 16636, 20, 10}, {44450, 16646, 20, 11}, {44471, 16657, 20, 12},
+    {44492, 16669, 26, 12}, {44544, 16681, 29, 12}, {44574, 16693, 29, 10}, {44604, 16703, 29, 11},
+    {44634, 16714, 29, 12}, {44664, 16726, 35, 12}, {44700, 16738, 38, 12}, {44739, 16750, 11, 9},
+    {44751, 16759, 23, 10}, {44775, 16769, 23, 11}, {44799, 16780, 25, 12}, {44825, 16792, 29, 12},
+    {44855, 16804, 31, 12}, {44887, 16816, 24, 12}, {44912, 16828, 25, 10}, {44938, 16838, 25, 11},
+    {44964, 16849, 27, 12}, {44992, 16861, 31, 12}, {45056, 16873, 37, 12}, {45094, 16896, 40, 12},
+    {45135, 16908, 26, 12}, {45162, 16920, 9, 9}, {45172, 16929, 19, 10}, {45192, 16939, 21, 10},
+    {45214, 16949, 21, 11}, {45236, 16960, 17, 12}, {45254, 16972, 14, 12}, {45269, 16984, 14, 12},
+    {45284, 16996, 27, 12}, {45312, 17008, 29, 12}, {45342, 17020, 15, 12}, {45358, 17032, 21, 12},
+    {45380, 17044, 20, 10}, {45401, 17054, 20, 11}, {45422, 17065, 19, 12}, {45442, 17077, 26, 12},
+    {45469, 17089, 29, 12}, {45499, 17101, 28, 12}, {45528, 17113, 24, 12}, {45568, 17125, 27, 10},
+    {45596, 17135, 18, 10}, {45615, 17145, 18, 11}, {45634, 17156, 9, 12}, {45644, 17168, 29, 12},
+    {45674, 17180, 25, 12}, {45700, 17192, 19, 12}, {45720, 17204, 32, 12}, {45753, 17216, 26, 12},
+    {45780, 17228, 35, 12}, {45816, 17240, 28, 10}, {45845, 17250, 28, 11}, {45874, 17261, 23, 12},
+    {45898, 17273, 24, 12}, {45923, 17285, 25, 12}, {45949, 17297, 31, 12}, {45981, 17309, 32, 12},
+    {46014, 17321, 33, 12}, {46080, 17333, 30, 10}, {46111, 17343, 30, 11}, {46142, 17354, 25, 12},
+    {46168, 17366, 26, 12}, {46195, 17378, 27, 12}, {46223, 17390, 29, 10}, {46253, 17408, 29, 11},
+    {46283, 17419, 19, 12}, {46303, 17431, 18, 12}, {46322, 17443, 19, 12}, {46342, 17455, 21, 12},
+    {46364, 17467, 25, 10}, {46390, 17477, 26, 10}, {46417, 17487, 13, 9}, {46431, 17496, 23, 10},
+    {46455, 17506, 23, 11}, {46479, 17517, 30, 12}, {46510, 17529, 34, 12}, {46545, 17541, 20, 12},
+    {46592, 17553, 27, 12}, {46620, 17565, 22, 10}, {46643, 17575, 22, 11}, {46666, 17586, 24, 12},
+    {46691, 17598, 25, 12}, {46717, 17610, 26, 12}, {46744, 17622, 4, 6}, {46749, 17628, 8, 7}, {46758, 17635, 14, 8},
+    {46773, 17643, 12, 8}, {46786, 17651, 25, 8}, {46812, 17659, 29, 8}, {46842, 17667, 16, 8}, {46859, 17675, 17, 8},
+    {46877, 17683, 20, 8}, {46898, 17691, 9, 7}, {46908, 17698, 14, 8}, {46923, 17706, 12, 8}, {46936, 17714, 14, 8},
+    {46951, 17722, 14, 9}, {46966, 17731, 14, 10}, {46981, 17741, 13, 10}, {46995, 17751, 14, 10},
+    {47010, 17761, 24, 10}, {47035, 17771, 13, 10}, {47049, 17781, 13, 10}, {47063, 17791, 27, 10},
+    {47091, 17801, 8, 7}, {47104, 17808, 13, 8}, {47118, 17816, 13, 8}, {47132, 17824, 13, 9}, {47146, 17833, 13, 10},
+    {47160, 17843, 12, 10}, {47173, 17853, 13, 10}, {47187, 17863, 10, 10}, {47198, 17873, 14, 10},
+    {47213, 17883, 14, 10}, {47228, 17893, 16, 8}, {47245, 17901, 16, 9}, {47262, 17920, 16, 10},
+    {47279, 17930, 15, 10}, {47295, 17940, 14, 8}, {47310, 17948, 14, 9}, {47325, 17957, 16, 10}, {47342, 17967, 14, 8},
+    {47357, 17975, 14, 9}, {47372, 17984, 15, 10}, {47388, 17994, 27, 10}, {47416, 18004, 18, 8}, {47435, 18012, 18, 9},
+    {47454, 18021, 19, 10}, {47474, 18031, 18, 10}, {47493, 18041, 22, 10}, {47516, 18051, 21, 10},
+    {47538, 18061, 16, 8}, {47555, 18069, 16, 9}, {47572, 18078, 16, 10}, {47589, 18088, 16, 10},
+    {47616, 18098, 13, 10}, {47630, 18108, 15, 10}, {47646, 18118, 18, 10}, {47665, 18128, 9, 8}, {47675, 18136, 9, 9},
+    {47685, 18145, 9, 10}, {47695, 18155, 14, 10}, {47710, 18165, 20, 10}, {47731, 18175, 8, 10},
+    {47740, 18185, 10, 10}, {47751, 18195, 12, 10}, {47764, 18205, 16, 10}, {47781, 18215, 22, 10},
+    {47804, 18225, 25, 10}, {47830, 18235, 9, 8}, {47840, 18243, 7, 7}, {47848, 18250, 11, 8}, {47860, 18258, 12, 8},
+    {47873, 18266, 12, 9}, {47886, 18275, 12, 10}, {47899, 18285, 11, 10}, {47911, 18295, 9, 10},
+    {47921, 18305, 11, 10}, {47933, 18315, 17, 10}, {47951, 18325, 11, 10}, {47963, 18335, 13, 10},
+    {47977, 18345, 11, 7}, {47989, 18352, 16, 8}, {48006, 18360, 16, 9}, {48023, 18369, 14, 10}, {48038, 18379, 14, 10},
+    {48053, 18389, 13, 7}, {48067, 18396, 23, 8}, {48091, 18404, 27, 8}, {48128, 18412, 18, 8}, {48147, 18420, 18, 9},
+    {48166, 18432, 18, 10}, {48185, 18442, 17, 10}, {48203, 18452, 15, 10}, {48219, 18462, 17, 10},
+    {48237, 18472, 17, 10}, {48255, 18482, 14, 7}, {48270, 18489, 22, 8}, {48293, 18497, 16, 8}, {48310, 18505, 15, 9},
+    {48326, 18514, 11, 8}, {48338, 18522, 13, 9}, {48352, 18531, 14, 9}, {48367, 18540, 13, 9}, {48381, 18549, 12, 9},
+    {48394, 18558, 16, 9}, {48411, 18567, 18, 9}, {48430, 18576, 5, 6}, {48436, 18582, 12, 7}, {48449, 18589, 8, 8},
+    {48458, 18597, 8, 9}, {48467, 18606, 6, 10}, {48474, 18616, 17, 10}, {48492, 18626, 17, 10}, {48510, 18636, 18, 10},
+    {48529, 18646, 18, 10}, {48548, 18656, 12, 10}, {48561, 18666, 15, 10}, {48577, 18676, 19, 10},
+    {48597, 18686, 19, 10}, {48617, 18696, 13, 10}, {48640, 18706, 16, 10}, {48657, 18716, 20, 10},
+    {48678, 18726, 20, 10}, {48699, 18736, 22, 10}, {48722, 18746, 11, 10}, {48734, 18756, 17, 10},
+    {48752, 18766, 18, 10}, {48771, 18776, 7, 10}, {48779, 18786, 26, 10}, {48806, 18796, 12, 8}, {48819, 18804, 12, 9},
+    {48832, 18813, 18, 10}, {48851, 18823, 17, 10}, {48869, 18833, 13, 10}, {48883, 18843, 11, 8},
+    {48895, 18851, 11, 9}, {48907, 18860, 8, 10}, {48916, 18870, 12, 10}, {48929, 18880, 10, 10},
+    {48940, 18890, 12, 10}, {48953, 18900, 10, 10}, {48964, 18910, 11, 10}, {48976, 18920, 17, 8},
+    {48994, 18928, 17, 9}, {49012, 18944, 19, 10}, {49032, 18954, 18, 10}, {49051, 18964, 16, 10},
+    {49068, 18974, 17, 8}, {49086, 18982, 17, 8}, {49104, 18990, 13, 7}, {49118, 18997, 8, 8}, {49127, 19005, 14, 9},
+    {49152, 19014, 18, 9}, {49171, 19023, 20, 9}, {49192, 19032, 13, 9}, {49206, 19041, 15, 9}, {49222, 19050, 16, 9},
+    {49239, 19059, 17, 9}, {49257, 19068, 11, 9}, {49269, 19077, 12, 9}, {49282, 19086, 25, 9}, {49308, 19095, 13, 9},
+    {49322, 19104, 17, 9}, {49340, 19113, 27, 9}, {49368, 19122, 28, 9}, {49397, 19131, 13, 8}, {49411, 19139, 12, 9},
+    {49424, 19148, 13, 9}, {49438, 19157, 13, 9}, {49452, 19166, 6, 6}, {49459, 19172, 10, 7}, {49470, 19179, 8, 8},
+    {49479, 19187, 20, 9}, {49500, 19196, 13, 9}, {49514, 19205, 26, 9}, {49541, 19214, 28, 9}, {49570, 19223, 12, 9},
+    {49583, 19232, 23, 9}, {49607, 19241, 10, 8}, {49618, 19249, 16, 9}, {49635, 19258, 19, 9}, {49664, 19267, 28, 9},
+    {49693, 19276, 27, 9}, {49721, 19285, 17, 9}, {49739, 19294, 17, 9}, {49757, 19303, 21, 9}, {49779, 19312, 8, 8},
+    {49788, 19320, 16, 9}, {49805, 19329, 16, 9}, {49822, 19338, 13, 9}, {49836, 19347, 13, 10}, {49850, 19357, 17, 11},
+    {49868, 19368, 17, 11}, {49886, 19379, 15, 11}, {49902, 19390, 15, 11}, {49918, 19401, 17, 11},
+    {49936, 19412, 9, 8}, {49946, 19420, 15, 9}, {49962, 19429, 18, 9}, {49981, 19438, 17, 9}, {49999, 19456, 14, 9},
+    {50014, 19465, 14, 10}, {50029, 19475, 18, 11}, {50048, 19486, 16, 11}, {50065, 19497, 16, 11},
+    {50082, 19508, 14, 11}, {50097, 19519, 20, 11}, {50118, 19530, 9, 8}, {50128, 19538, 18, 9}, {50147, 19547, 17, 9},
+    {50176, 19556, 14, 9}, {50191, 19565, 14, 10}, {50206, 19575, 18, 11}, {50225, 19586, 16, 11},
+    {50242, 19597, 16, 11}, {50259, 19608, 14, 11}, {50274, 19619, 8, 8}, {50283, 19627, 16, 9}, {50300, 19636, 13, 9},
+    {50314, 19645, 13, 10}, {50328, 19655, 10, 11}, {50339, 19666, 13, 11}, {50353, 19677, 12, 11},
+    {50366, 19688, 18, 9}, {50385, 19697, 18, 10}, {50404, 19707, 17, 10}, {50422, 19717, 18, 10},
+    {50441, 19727, 23, 10}, {50465, 19737, 15, 10}, {50481, 19747, 16, 10}, {50498, 19757, 17, 10},
+    {50516, 19767, 22, 10}, {50539, 19777, 16, 10}, {50556, 19787, 17, 10}, {50574, 19797, 28, 10},
+    {50603, 19807, 25, 10}, {50629, 19817, 21, 10}, {50651, 19827, 20, 10}, {50688, 19837, 20, 10},
+    {50709, 19847, 18, 10}, {50728, 19857, 19, 10}, {50748, 19867, 20, 10}, {50769, 19877, 28, 10},
+    {50798, 19887, 26, 10}, {50825, 19897, 21, 10}, {50847, 19907, 23, 10}, {50871, 19917, 24, 10},
+    {50896, 19927, 22, 10}, {50919, 19937, 7, 8}, {50927, 19945, 9, 9}, {50937, 19954, 15, 9}, {50953, 19968, 21, 9},
+    {50975, 19977, 20, 9}, {50996, 19986, 16, 9}, {51013, 19995, 18, 9}, {51032, 20004, 17, 9}, {51050, 20013, 23, 10},
+    {51074, 20023, 26, 10}, {51101, 20033, 25, 10}, {51127, 20043, 23, 10}, {51151, 20053, 29, 10},
+    {51181, 20063, 10, 8}, {51200, 20071, 15, 9}, {51216, 20080, 21, 9}, {51238, 20089, 20, 9}, {51259, 20098, 21, 9},
+    {51281, 20107, 14, 9}, {51296, 20116, 9, 8}, {51306, 20124, 21, 9}, {51328, 20133, 18, 9}, {51347, 20142, 22, 9},
+    {51370, 20151, 19, 9}, {51390, 20160, 17, 9}, {51408, 20169, 20, 9}, {51429, 20178, 20, 9}, {51450, 20187, 22, 9},
+    {51473, 20196, 32, 9}, {51506, 20205, 33, 9}, {51540, 20214, 8, 7}, {51549, 20221, 16, 8}, {51566, 20229, 20, 8},
+    {51587, 20237, 22, 8}, {51610, 20245, 24, 8}, {51635, 20253, 8, 6}, {51644, 20259, 15, 7}, {51660, 20266, 8, 6},
+    {51669, 20272, 10, 7}, {51680, 20279, 15, 8}, {51712, 20287, 15, 9}, {51728, 20296, 23, 10}, {51752, 20306, 29, 10},
+    {51782, 20316, 15, 10}, {51798, 20326, 25, 10}, {51824, 20336, 23, 10}, {51848, 20346, 20, 10},
+    {51869, 20356, 21, 10}, {51891, 20366, 21, 10}, {51913, 20376, 24, 10}, {51938, 20386, 22, 10},
+    {51961, 20396, 30, 10}, {51992, 20406, 30, 10}, {52023, 20416, 17, 10}, {52041, 20426, 28, 10},
+    {52070, 20436, 27, 10}, {52098, 20446, 21, 10}, {52120, 20456, 22, 10}, {52143, 20466, 22, 10},
+    {52166, 20480, 17, 10}, {52184, 20490, 18, 8}, {52224, 20498, 18, 9}, {52243, 20507, 22, 10},
+    {52266, 20517, 18, 10}, {52285, 20527, 17, 8}, {52303, 20535, 17, 9}, {52321, 20544, 21, 10},
+    {52343, 20554, 17, 10}, {52361, 20564, 8, 7}, {52370, 20571, 13, 8}, {52384, 20579, 13, 9}, {52398, 20588, 13, 10},
+    {52412, 20598, 19, 10}, {52432, 20608, 14, 10}, {52447, 20618, 15, 7}, {52463, 20625, 20, 8}, {52484, 20633, 20, 9},
+    {52505, 20642, 20, 10}, {52526, 20652, 23, 10}, {52550, 20662, 22, 10}, {52573, 20672, 27, 10},
+    {52601, 20682, 8, 7}, {52610, 20689, 13, 8}, {52624, 20697, 13, 9}, {52638, 20706, 13, 10}, {52652, 20716, 12, 10},
+    {52665, 20726, 15, 10}, {52681, 20736, 31, 10}, {52736, 20746, 32, 10}, {52769, 20756, 29, 10},
+    {52799, 20766, 30, 10}, {52830, 20776, 20, 10}, {52851, 20786, 19, 10}, {52871, 20796, 20, 10},
+    {52892, 20806, 14, 10}, {52907, 20816, 17, 10}, {52925, 20826, 12, 10}, {52938, 20836, 18, 10},
+    {52957, 20846, 13, 10}, {52971, 20856, 15, 10}, {52987, 20866, 20, 10}, {53008, 20876, 19, 10},
+    {53028, 20886, 16, 10}, {53045, 20896, 19, 10}, {53065, 20906, 17, 10}, {53083, 20916, 18, 10},
+    {53102, 20926, 22, 10}, {53125, 20936, 24, 10}, {53150, 20946, 17, 10}, {53168, 20956, 9, 7}, {53178, 20963, 14, 8},
+    {53193, 20971, 14, 9}, {53208, 20992, 14, 10}, {53223, 21002, 13, 10}, {53248, 21012, 21, 10},
+    {53270, 21022, 20, 10}, {53291, 21032, 26, 10}, {53318, 21042, 15, 10}, {53334, 21052, 13, 10},
+    {53348, 21062, 19, 10}, {53368, 21072, 14, 10}, {53383, 21082, 16, 10}, {53400, 21092, 21, 10},
+    {53422, 21102, 20, 10}, {53443, 21112, 17, 10}, {53461, 21122, 16, 10}, {53478, 21132, 22, 10},
+    {53501, 21142, 23, 10}, {53525, 21152, 22, 10}, {53548, 21162, 23, 10}, {53572, 21172, 22, 10},
+    {53595, 21182, 32, 10}, {53628, 21192, 17, 10}, {53646, 21202, 20, 10}, {53667, 21212, 21, 10},
+    {53689, 21222, 23, 10}, {53713, 21232, 9, 7}, {53723, 21239, 14, 8}, {53738, 21247, 14, 9}, {53760, 21256, 14, 10},
+    {53775, 21266, 17, 10}, {53793, 21276, 20, 10}, {53814, 21286, 18, 10}, {53833, 21296, 21, 10},
+    {53855, 21306, 25, 10}, {53881, 21316, 22, 10}, {53904, 21326, 27, 10}, {53932, 21336, 30, 10},
+    {53963, 21346, 31, 10}, {53995, 21356, 20, 10}, {54016, 21366, 20, 10}, {54037, 21376, 19, 10},
+    {54057, 21386, 19, 10}, {54077, 21396, 15, 10}, {54093, 21406, 17, 7}, {54111, 21413, 22, 8}, {54134, 21421, 22, 9},
+    {54157, 21430, 22, 10}, {54180, 21440, 28, 10}, {54209, 21450, 30, 10}, {54240, 21460, 22, 10},
+    {54272, 21470, 21, 10}, {54294, 21480, 28, 10}, {54323, 21490, 27, 10}, {54351, 21504, 28, 10},
+    {54380, 21514, 22, 10}, {54403, 21524, 17, 7}, {54421, 21531, 22, 8}, {54444, 21539, 22, 9}, {54467, 21548, 22, 10},
+    {54490, 21558, 28, 10}, {54519, 21568, 21, 10}, {54541, 21578, 22, 10}, {54564, 21588, 25, 10},
+    {54590, 21598, 12, 7}, {54603, 21605, 17, 8}, {54621, 21613, 17, 9}, {54639, 21622, 17, 10}, {54657, 21632, 29, 10},
+    {54687, 21642, 25, 10}, {54713, 21652, 20, 10}, {54734, 21662, 27, 10}, {54784, 21672, 28, 10},
+    {54813, 21682, 27, 10}, {54841, 21692, 28, 10}, {54870, 21702, 16, 10}, {54887, 21712, 23, 10},
+    {54911, 21722, 18, 10}, {54930, 21732, 10, 7}, {54941, 21739, 15, 8}, {54957, 21747, 15, 9}, {54973, 21756, 15, 10},
+    {54989, 21766, 14, 10}, {55004, 21776, 25, 10}, {55030, 21786, 33, 10}, {55064, 21796, 34, 10},
+    {55099, 21806, 15, 10}, {55115, 21816, 17, 10}, {55133, 21826, 16, 10}, {55150, 21836, 21, 10},
+    {55172, 21846, 14, 7}, {55187, 21853, 19, 8}, {55207, 21861, 19, 9}, {55227, 21870, 19, 10}, {55247, 21880, 24, 10},
+    {55296, 21890, 23, 10}, {55320, 21900, 25, 10}, {55346, 21910, 25, 10}, {55372, 21920, 21, 10},
+    {55394, 21930, 32, 10}, {55427, 21940, 32, 10}, {55460, 21950, 33, 10}, {55494, 21960, 30, 10},
+    {55525, 21970, 31, 10}, {55557, 21980, 20, 10}, {55578, 21990, 23, 7}, {55602, 21997, 28, 8}, {55631, 22016, 28, 9},
+    {55660, 22025, 28, 10}, {55689, 22035, 27, 10}, {55717, 22045, 16, 7}, {55734, 22052, 20, 8}, {55755, 22060, 20, 9},
+    {55776, 22069, 20, 10}, {55808, 22079, 16, 10}, {55825, 22089, 17, 10}, {55843, 22099, 15, 10},
+    {55859, 22109, 21, 10}, {55881, 22119, 8, 7}, {55890, 22126, 13, 8}, {55904, 22134, 13, 9}, {55918, 22143, 13, 10},
+    {55932, 22153, 21, 10}, {55954, 22163, 21, 10}, {55976, 22173, 18, 10}, {55995, 22183, 16, 10},
+    {56012, 22193, 12, 10}, {56025, 22203, 19, 10}, {56045, 22213, 12, 10}, {56058, 22223, 14, 8},
+    {56073, 22231, 20, 9}, {56094, 22240, 14, 10}, {56109, 22250, 9, 6}, {56119, 22256, 16, 7}, {56136, 22263, 14, 8},
+    {56151, 22271, 16, 9}, {56168, 22280, 16, 10}, {56185, 22290, 16, 11}, {56202, 22301, 16, 11},
+    {56219, 22312, 21, 11}, {56241, 22323, 22, 11}, {56264, 22334, 16, 11}, {56281, 22345, 23, 11},
+    {56320, 22356, 15, 11}, {56336, 22367, 22, 11}, {56359, 22378, 22, 11}, {56382, 22389, 22, 11},
+    {56405, 22400, 20, 11}, {56426, 22411, 18, 11}, {56445, 22422, 20, 11}, {56466, 22433, 16, 11},
+    {56483, 22444, 18, 11}, {56502, 22455, 16, 11}, {56519, 22466, 18, 11}, {56538, 22477, 15, 11},
+    {56554, 22488, 13, 8}, {56568, 22496, 15, 9}, {56584, 22505, 15, 10}, {56600, 22528, 15, 11},
+    {56616, 22539, 15, 11}, {56632, 22550, 14, 11}, {56647, 22561, 19, 11}, {56667, 22572, 18, 11},
+    {56686, 22583, 17, 11}, {56704, 22594, 25, 11}, {56730, 22605, 21, 11}, {56752, 22616, 13, 8},
+    {56766, 22624, 17, 9}, {56784, 22633, 17, 10}, {56802, 22643, 18, 11}, {56832, 22654, 20, 9},
+    {56853, 22663, 20, 10}, {56874, 22673, 26, 11}, {56901, 22684, 25, 11}, {56927, 22695, 24, 9},
+    {56952, 22704, 24, 10}, {56977, 22714, 21, 11}, {56999, 22725, 13, 8}, {57013, 22733, 17, 9}, {57031, 22742, 14, 7},
+    {57046, 22749, 19, 8}, {57066, 22757, 15, 9}, {57082, 22766, 5, 6}, {57088, 22772, 16, 7}, {57105, 22779, 16, 8},
+    {57122, 22787, 15, 9}, {57138, 22796, 16, 9}, {57155, 22805, 11, 8}, {57167, 22813, 7, 9}, {57175, 22822, 9, 9},
+    {57185, 22831, 16, 9}, {57202, 22840, 11, 9}, {57214, 22849, 17, 9}, {57232, 22858, 11, 9}, {57244, 22867, 17, 9},
+    {57262, 22876, 18, 9}, {57281, 22885, 20, 9}, {57302, 22894, 25, 9}, {57344, 22903, 26, 9}, {57371, 22912, 28, 9},
+    {57400, 22921, 14, 9}, {57415, 22930, 16, 9}, {57432, 22939, 21, 9}, {57454, 22948, 22, 9}, {57477, 22957, 24, 9},
+    {57502, 22966, 20, 9}, {57523, 22975, 14, 9}, {57538, 22984, 20, 9}, {57559, 22993, 14, 9}, {57574, 23002, 20, 9},
+    {57595, 23011, 21, 9}, {57617, 23020, 14, 9}, {57632, 23029, 6, 6}, {57639, 23040, 17, 7}, {57657, 23047, 17, 8},
+    {57675, 23055, 16, 9}, {57692, 23064, 17, 9}, {57710, 23073, 12, 8}, {57723, 23081, 8, 9}, {57732, 23090, 12, 9},
+    {57745, 23099, 18, 9}, {57764, 23108, 16, 9}, {57781, 23117, 10, 9}, {57792, 23126, 6, 6}, {57799, 23132, 17, 7},
+    {57817, 23139, 17, 8}, {57835, 23147, 16, 9}, {57856, 23156, 17, 9}, {57874, 23165, 12, 8}, {57887, 23173, 8, 9},
+    {57896, 23182, 12, 9}, {57909, 23191, 10, 9}, {57920, 23200, 16, 9}, {57937, 23209, 18, 6}, {57956, 23215, 15, 7},
+    {57972, 23222, 15, 8}, {57988, 23230, 15, 9}, {58004, 23239, 16, 10}, {58021, 23249, 15, 6}, {58037, 23255, 19, 7},
+    {58057, 23262, 17, 8}, {58075, 23270, 17, 9}, {58093, 23279, 16, 10}, {58110, 23289, 17, 10},
+    {58128, 23299, 21, 10}, {58150, 23309, 17, 10}, {58168, 23319, 22, 10}, {58191, 23329, 24, 10},
+    {58216, 23339, 26, 10}, {58243, 23349, 27, 10}, {58271, 23359, 12, 4}, {58284, 23359, 12, 4}, {58297, 23363, 7, 4},
+    {58305, 23363, 7, 4}, {58313, 23367, 11, 5}, {58325, 23367, 11, 5}, {58337, 23372, 12, 11}, {58368, 23383, 16, 11},
+    {58385, 23394, 13, 11}, {58399, 23405, 12, 11}, {58412, 23416, 18, 11}, {58431, 23427, 11, 11},
+    {58443, 23438, 20, 11}, {58464, 23449, 7, 11}, {58472, 23460, 14, 11}, {58487, 23471, 8, 11},
+    {58496, 23482, 17, 11}, {58514, 23493, 13, 11}, {58528, 23504, 10, 11}, {58539, 23515, 20, 11},
+    {58560, 23526, 19, 11}, {58580, 23537, 20, 11}, {58601, 23552, 11, 11}, {58613, 23563, 14, 11},
+    {58628, 23574, 20, 11}, {58649, 23585, 12, 11}, {58662, 23596, 9, 11}, {58672, 23607, 9, 11},
+    {58682, 23618, 12, 11}, {58695, 23629, 15, 11}, {58711, 23640, 12, 11}, {58724, 23651, 16, 11},
+    {58741, 23662, 18, 11}, {58760, 23673, 10, 11}, {58771, 23684, 18, 11}, {58790, 23695, 13, 11},
+    {58804, 23706, 23, 11}, {58828, 23717, 13, 11}, {58842, 23728, 18, 11}, {58861, 23739, 13, 11},
+    {58880, 23750, 14, 11}, {58895, 23761, 20, 11}, {58916, 23772, 14, 11}, {58931, 23783, 10, 11},
+    {58942, 23794, 15, 11}, {58958, 23805, 8, 11}, {58967, 23816, 17, 11}, {58985, 23827, 11, 11},
+    {58997, 23838, 11, 11}, {59009, 23849, 10, 11}, {59020, 23860, 12, 11}, {59033, 23871, 10, 11},
+    {59044, 23882, 14, 11}, {59059, 23893, 14, 11}, {59074, 23904, 12, 11}, {59087, 23915, 21, 11},
+    {59109, 23926, 23, 11}, {59133, 23937, 9, 11}, {59143, 23948, 34, 11}, {59178, 23948, 35, 11},
+    {59214, 23959, 14, 12}, {59229, 23971, 32, 11}, {59262, 23982, 8, 11}, {59271, 23982, 8, 11},
+    {59280, 23982, 11, 11}, {59292, 23993, 18, 11}, {59311, 24004, 9, 7}, {59321, 24011, 23, 10},
+    {59345, 24021, 24, 10}, {59392, 24031, 22, 10}, {59415, 24041, 8, 10}, {59424, 24041, 27, 10},
+    {59452, 24041, 21, 10}, {59474, 24051, 23, 10}, {59498, 24064, 35, 10}, {59534, 24064, 9, 10},
+    {59544, 24064, 33, 10}, {59578, 24074, 35, 10}, {59614, 24074, 9, 10}, {59624, 24074, 33, 10},
+    {59658, 24074, 30, 10}, {59689, 24074, 41, 10}, {59731, 24084, 7, 10}, {59739, 24094, 6, 10},
+    {59746, 24104, 26, 10}, {59773, 24114, 25, 10}, {59799, 24114, 26, 10}, {59826, 24124, 9, 9}, {59836, 24124, 22, 9},
+    {59859, 24133, 26, 9}, {59904, 24142, 26, 10}, {59931, 24142, 9, 10}, {59941, 24142, 28, 10},
+    {59970, 24142, 36, 10}, {60007, 24142, 28, 10}, {60036, 24152, 27, 10}, {60064, 24152, 23, 10},
+    {60088, 24152, 17, 10}, {60106, 24152, 28, 10}, {60135, 24162, 25, 10}, {60161, 24162, 5, 10},
+    {60167, 24162, 29, 10}, {60197, 24162, 26, 10}, {60224, 24162, 37, 10}, {60262, 24162, 22, 10},
+    {60285, 24172, 20, 11}, {60306, 24183, 12, 10}, {60319, 24183, 5, 10}, {60325, 24183, 31, 10},
+    {60357, 24183, 22, 10}, {60380, 24183, 14, 10}, {60395, 24183, 13, 10}, {60416, 24193, 18, 11},
+    {60435, 24193, 13, 11}, {60449, 24193, 12, 11}, {60462, 24193, 22, 11}, {60485, 24204, 17, 10},
+    {60503, 24204, 36, 10}, {60540, 24204, 14, 10}, {60555, 24214, 16, 10}, {60572, 24214, 37, 10},
+    {60610, 24214, 13, 10}, {60624, 24224, 21, 10}, {60646, 24224, 41, 10}, {60688, 24224, 18, 10},
+    {60707, 24234, 24, 10}, {60732, 24234, 46, 10}, {60779, 24234, 21, 10}, {60801, 24244, 22, 10},
+    {60824, 24244, 16, 10}, {60841, 24244, 26, 10}, {60868, 24254, 32, 10}, {60901, 24254, 23, 10},
+    {60928, 24254, 33, 10}, {60962, 24264, 21, 10}, {60984, 24264, 12, 10}, {60997, 24264, 22, 10},
+    {61020, 24274, 25, 10}, {61046, 24274, 16, 10}, {61063, 24274, 26, 10}, {61090, 24284, 25, 10},
+    {61116, 24284, 16, 10}, {61133, 24284, 26, 10}, {61160, 24294, 32, 10}, {61193, 24304, 25, 10},
+    {61219, 24304, 19, 10}, {61239, 24314, 21, 10}, {61261, 24314, 15, 10}, {61277, 24324, 9, 10},
+    {61287, 24324, 14, 10}, {61302, 24324, 25, 10}, {61328, 24334, 14, 10}, {61343, 24334, 17, 10},
+    {61361, 24344, 20, 10}, {61382, 24344, 27, 10}, {61410, 24344, 14, 10}, {61440, 24354, 28, 10},
+    {61469, 24364, 28, 10}, {61498, 24364, 24, 10}, {61523, 24374, 25, 9}, {61549, 24383, 32, 10},
+    {61582, 24393, 29, 10}, {61612, 24393, 33, 10}, {61646, 24403, 16, 10}, {61663, 24403, 20, 10},
+    {61684, 24413, 7, 9}, {61692, 24413, 18, 9}, {61711, 24413, 36, 9}, {61748, 24422, 11, 9}, {61760, 24422, 23, 9},
+    {61784, 24431, 33, 9}, {61818, 24440, 27, 9}, {61846, 24449, 31, 9}, {61878, 24449, 25, 9}, {61904, 24449, 25, 9},
+    {61952, 24458, 22, 10}, {61975, 24458, 25, 10}, {62001, 24458, 16, 10}, {62018, 24468, 24, 10},
+    {62043, 24468, 16, 10}, {62060, 24468, 25, 10}, {62086, 24468, 16, 10}, {62103, 24468, 16, 10},
+    {62120, 24468, 15, 10}, {62136, 24468, 26, 10}, {62163, 24478, 23, 10}, {62187, 24478, 5, 10},
+    {62193, 24478, 29, 10}, {62223, 24478, 16, 10}, {62240, 24478, 14, 10}, {62255, 24478, 19, 10},
+    {62275, 24478, 3, 10}, {62279, 24488, 19, 9}, {62299, 24497, 24, 9}, {62324, 24497, 10, 9}, {62335, 24506, 32, 9},
+    {62368, 24506, 28, 9}, {62397, 24515, 22, 9}, {62420, 24515, 23, 9}, {62464, 24524, 22, 9}, {62487, 24524, 16, 9},
+    {62504, 24533, 20, 9}, {62525, 24533, 20, 9}, {62546, 24533, 42, 9}, {62589, 24542, 27, 9}, {62617, 24542, 18, 9},
+    {62636, 24551, 26, 9}, {62663, 24551, 13, 9}, {62677, 24551, 30, 9}, {62708, 24551, 32, 9}, {62741, 24551, 20, 9},
+    {62762, 24551, 21, 9}, {62784, 24560, 25, 9}, {62810, 24576, 12, 9}, {62823, 24585, 31, 9}, {62855, 24585, 15, 9},
+    {62871, 24585, 40, 9}, {62912, 24585, 20, 9}, {62933, 24585, 30, 9}, {62976, 24594, 33, 9}, {63010, 24594, 27, 9},
+    {63038, 24603, 36, 9}, {63075, 24603, 30, 9}, {63106, 24612, 23, 9}, {63130, 24612, 12, 9}, {63143, 24621, 18, 9},
+    {63162, 24621, 23, 9}, {63186, 24630, 31, 9}, {63218, 24630, 32, 9}, {63251, 24639, 28, 9}, {63280, 24639, 29, 9},
+    {63310, 24648, 22, 9}, {63333, 24657, 26, 9}, {63360, 24657, 35, 9}, {63396, 24666, 25, 9}, {63422, 24666, 18, 9},
+    {63441, 24666, 29, 9}, {63488, 24675, 24, 9}, {63513, 24675, 21, 9}, {63535, 24684, 29, 9}, {63565, 24684, 16, 9},
+    {63582, 24693, 28, 9}, {63611, 24702, 22, 9}, {63634, 24711, 26, 9}, {63661, 24711, 15, 9}, {63677, 24711, 27, 9},
+    {63705, 24720, 20, 10}, {63726, 24720, 15, 10}, {63742, 24720, 27, 10}, {63770, 24730, 29, 10},
+    {63800, 24740, 13, 11}, {63814, 24740, 24, 11}, {63839, 24740, 19, 11}, {63859, 24740, 13, 11},
+    {63873, 24740, 39, 11}, {63913, 24740, 22, 11}, {63936, 24751, 14, 11}, {63951, 24751, 31, 11},
+    {64000, 24751, 30, 11}, {64031, 24751, 21, 11}, {64053, 24751, 46, 11}, {64100, 24751, 31, 11},
+    {64132, 24762, 13, 11}, {64146, 24762, 23, 11}, {64170, 24762, 20, 11}, {64191, 24762, 12, 11},
+    {64204, 24762, 38, 11}, {64243, 24762, 21, 11}, {64265, 24773, 33, 10}, {64299, 24773, 24, 10},
+    {64324, 24773, 12, 10}, {64337, 24773, 26, 10}, {64364, 24773, 37, 10}, {64402, 24783, 26, 10},
+    {64429, 24793, 29, 10}, {64459, 24803, 32, 10}, {64492, 24813, 13, 11}, {64512, 24824, 14, 10},
+    {64527, 24834, 13, 10}, {64541, 24844, 8, 10}, {64550, 24844, 19, 10}, {64570, 24854, 10, 10},
+    {64581, 24854, 10, 10}, {64592, 24864, 10, 11}, {64603, 24864, 10, 11}, {64614, 24864, 11, 11},
+    {64626, 24875, 10, 10}, {64637, 24875, 10, 10}, {64648, 24885, 10, 11}, {64659, 24885, 10, 11},
+    {64670, 24885, 11, 11}, {64682, 24896, 7, 7}, {64690, 24903, 7, 8}, {64698, 24911, 7, 9}, {64706, 24920, 7, 10},
+    {64714, 24930, 7, 10}, {64722, 24940, 5, 10}, {64728, 24950, 5, 10}, {64734, 24960, 7, 10}, {64742, 24970, 11, 10},
+    {64754, 24980, 12, 10}, {64767, 24990, 8, 10}, {64776, 25000, 11, 10}, {64788, 25010, 6, 8}, {64795, 25018, 8, 9},
+    {64804, 25027, 12, 9}, {64817, 25036, 12, 9}, {64830, 25045, 12, 9}, {64843, 25054, 12, 9}, {64856, 25063, 12, 9},
+    {64869, 25072, 15, 9}, {64885, 25088, 15, 9}, {64901, 25097, 15, 9}, {64917, 25106, 15, 9}, {64933, 25115, 12, 9},
+    {64946, 25124, 14, 9}, {64961, 25133, 9, 9}, {64971, 25142, 9, 9}, {64981, 25151, 9, 9}, {64991, 25160, 14, 9},
+    {65006, 25169, 14, 9}, {65024, 25178, 13, 9}, {65038, 25187, 13, 9}, {65052, 25196, 13, 9}, {65066, 25205, 13, 9},
+    {65080, 25214, 13, 9}, {65094, 25223, 15, 9}, {65110, 25232, 10, 9}, {65121, 25241, 10, 9}, {65132, 25250, 10, 9},
+    {65143, 25259, 11, 9}, {65155, 25268, 12, 9}, {65168, 25277, 15, 9}, {65184, 25286, 8, 8}, {65193, 25294, 8, 9},
+    {65202, 25303, 8, 10}, {65211, 25313, 8, 10}, {65220, 25323, 10, 10}, {65231, 25333, 9, 10}, {65241, 25343, 9, 10},
+    {65251, 25353, 9, 10}, {65261, 25363, 12, 10}, {65274, 25373, 8, 8}, {65283, 25381, 8, 9}, {65292, 25390, 8, 10},
+    {65301, 25400, 7, 10}, {65309, 25410, 9, 10}, {65319, 25420, 10, 10}, {65330, 25430, 13, 10}, {65344, 25440, 8, 10},
+    {65353, 25450, 8, 10}, {65362, 25460, 7, 10}, {65370, 25470, 10, 10}, {65381, 25480, 14, 10},
+    {65396, 25490, 11, 10}, {65408, 25500, 12, 10}, {65421, 25510, 11, 10}, {65433, 25520, 12, 10},
+    {65446, 25530, 10, 10}, {65457, 25540, 11, 10}, {65469, 25550, 12, 10}, {65482, 25560, 11, 10},
+    {65494, 25570, 7, 8}, {65502, 25578, 7, 9}, {65510, 25587, 7, 10}, {65518, 25600, 7, 10}, {65526, 25610, 6, 10},
+    {65536, 25620, 8, 10}, {65545, 25630, 9, 10}, {65555, 25640, 11, 10}, {65567, 25650, 11, 10},
+    {65579, 25660, 12, 10}, {65592, 25670, 11, 8}, {65604, 25678, 7, 9}, {65612, 25687, 11, 9}, {65624, 25696, 8, 9},
+    {65633, 25705, 9, 9}, {65643, 25714, 8, 9}, {65652, 25723, 11, 9}, {65664, 25732, 15, 9}, {65680, 25741, 12, 9},
+    {65693, 25750, 9, 9}, {65703, 25759, 11, 9}, {65715, 25768, 9, 9}, {65725, 25777, 12, 9}, {65738, 25786, 12, 9},
+    {65751, 25795, 14, 9}, {65766, 25804, 12, 9}, {65779, 25813, 12, 9}, {65792, 25822, 14, 9}, {65807, 25831, 17, 9},
+    {65825, 25840, 11, 9}, {65837, 25849, 15, 9}, {65853, 25858, 15, 9}, {65869, 25867, 13, 9}, {65883, 25876, 15, 9},
+    {65899, 25885, 11, 9}, {65911, 25894, 12, 9}, {65924, 25903, 13, 9}, {65938, 25912, 13, 9}, {65952, 25921, 17, 9},
+    {65970, 25930, 12, 9}, {65983, 25939, 11, 8}, {65995, 25947, 15, 8}, {66011, 25955, 13, 9}, {66025, 25964, 12, 10},
+    {66048, 25974, 12, 11}, {66061, 25985, 12, 12}, {66074, 25997, 14, 12}, {66089, 26009, 17, 12},
+    {66107, 26021, 14, 12}, {66122, 26033, 17, 12}, {66140, 26045, 14, 12}, {66155, 26057, 14, 12},
+    {66170, 26069, 12, 12}, {66183, 26081, 12, 12}, {66196, 26093, 10, 12}, {66207, 26112, 12, 12},
+    {66220, 26124, 14, 12}, {66235, 26136, 17, 12}, {66253, 26148, 17, 12}, {66271, 26160, 17, 12},
+    {66289, 26172, 17, 12}, {66307, 26184, 12, 12}, {66320, 26196, 12, 12}, {66333, 26208, 12, 12},
+    {66346, 26220, 12, 12}, {66359, 26232, 12, 12}, {66372, 26244, 12, 12}, {66385, 26256, 12, 12},
+    {66398, 26268, 12, 12}, {66411, 26280, 12, 12}, {66424, 26292, 13, 12}, {66438, 26304, 11, 9},
+    {66450, 26313, 14, 10}, {66465, 26323, 10, 10}, {66476, 26333, 10, 11}, {66487, 26344, 10, 12},
+    {66498, 26356, 9, 12}, {66508, 26368, 9, 12}, {66518, 26380, 10, 12}, {66529, 26392, 11, 12}, {66541, 26404, 12, 9},
+    {66560, 26413, 11, 10}, {66572, 26423, 11, 11}, {66584, 26434, 11, 12}, {66596, 26446, 12, 12},
+    {66609, 26458, 11, 12}, {66621, 26470, 14, 12}, {66636, 26482, 11, 12}, {66648, 26494, 12, 12},
+    {66661, 26506, 9, 12}, {66671, 26518, 9, 12}, {66681, 26530, 10, 12}, {66692, 26542, 12, 12},
+    {66705, 26554, 15, 12}, {66721, 26566, 14, 12}, {66736, 26578, 9, 9}, {66746, 26587, 12, 10},
+    {66759, 26597, 18, 10}, {66778, 26607, 18, 11}, {66797, 26624, 18, 12}, {66816, 26636, 19, 12},
+    {66836, 26648, 18, 12}, {66855, 26660, 17, 10}, {66873, 26670, 17, 11}, {66891, 26681, 17, 12},
+    {66909, 26693, 18, 12}, {66928, 26705, 17, 12}, {66946, 26717, 18, 10}, {66965, 26727, 18, 11},
+    {66984, 26738, 18, 12}, {67003, 26750, 19, 12}, {67023, 26762, 18, 12}, {67042, 26774, 18, 10},
+    {67072, 26784, 18, 11}, {67091, 26795, 18, 12}, {67110, 26807, 19, 12}, {67130, 26819, 18, 12},
+    {67149, 26831, 10, 8}, {67160, 26839, 17, 9}, {67178, 26848, 13, 10}, {67192, 26858, 16, 11},
+    {67209, 26869, 19, 11}, {67229, 26880, 15, 11}, {67245, 26891, 17, 11}, {67263, 26902, 9, 8}, {67273, 26910, 9, 9},
+    {67283, 26919, 9, 10}, {67293, 26929, 8, 10}, {67302, 26939, 8, 10}, {67311, 26949, 7, 10}, {67319, 26959, 13, 10},
+    {67333, 26969, 12, 10}, {67346, 26979, 8, 8}, {67355, 26987, 18, 9}, {67374, 26996, 13, 9}, {67388, 27005, 13, 10},
+    {67402, 27015, 13, 11}, {67416, 27026, 12, 11}, {67429, 27037, 16, 11}, {67446, 27048, 13, 11},
+    {67460, 27059, 21, 11}, {67482, 27070, 19, 11}, {67502, 27081, 22, 11}, {67525, 27092, 20, 11},
+    {67546, 27103, 15, 11}, {67562, 27114, 13, 11}, {67584, 27136, 13, 11}, {67598, 27147, 17, 11},
+    {67616, 27158, 24, 11}, {67641, 27169, 7, 8}, {67649, 27177, 12, 9}, {67662, 27186, 10, 9}, {67673, 27195, 11, 9},
+    {67685, 27204, 12, 9}, {67698, 27213, 12, 9}, {67711, 27222, 23, 9}, {67735, 27231, 17, 9}, {67753, 27240, 19, 9},
+    {67773, 27249, 19, 9}, {67793, 27258, 25, 9}, {67819, 27267, 18, 9}, {67838, 27276, 8, 8}, {67847, 27284, 12, 9},
+    {67860, 27293, 12, 9}, {67873, 27302, 16, 9}, {67890, 27311, 17, 9}, {67908, 27320, 7, 8}, {67916, 27328, 7, 9},
+    {67924, 27337, 7, 10}, {67932, 27347, 12, 10}, {67945, 27357, 12, 9}, {67958, 27366, 7, 10}, {67966, 27376, 8, 9},
+    {67975, 27385, 8, 10}, {67984, 27395, 11, 10}, {67996, 27405, 29, 10}, {68026, 27405, 29, 10},
+    {68056, 27415, 21, 10}, {68096, 27425, 25, 10}, {68122, 27435, 21, 10}, {68144, 27445, 15, 10},
+    {68160, 27455, 15, 10}, {68176, 27465, 16, 10}, {68193, 27475, 25, 10}, {68219, 27485, 29, 10},
+    {68249, 27495, 28, 10}, {68278, 27505, 22, 10}, {68301, 27515, 12, 10}, {68314, 27525, 6, 9}, {68321, 27525, 6, 9},
+    {68328, 27534, 16, 10}, {68345, 27534, 7, 10}, {68353, 27544, 27, 10}, {68381, 27554, 5, 10}, {68387, 27564, 8, 10},
+    {68396, 27574, 15, 10}, {68412, 27574, 11, 10}, {68424, 27584, 11, 10}, {68436, 27594, 10, 10},
+    {68447, 27604, 14, 10}, {68462, 27614, 25, 10}, {68488, 27624, 25, 10}, {68514, 27634, 29, 10},
+    {68544, 27648, 33, 10}, {68608, 27658, 35, 10}, {68644, 27668, 13, 10}, {68658, 27678, 23, 10},
+    {68682, 27688, 23, 10}, {68706, 27698, 18, 10}, {68725, 27708, 13, 11}, {68739, 27719, 10, 13},
+    {68750, 27732, 7, 13}, {68758, 27745, 10, 13}, {68769, 27758, 13, 13}, {68783, 27771, 11, 13},
+    {68795, 27784, 12, 13}, {68808, 27797, 10, 13}, {68819, 27810, 14, 10}, {68834, 27820, 17, 10},
+    {68852, 27830, 16, 10}, {68869, 27840, 17, 10}, {68887, 27850, 20, 10}, {68908, 27860, 11, 10},
+    {68920, 27870, 12, 10}, {68933, 27880, 12, 10}, {68946, 27890, 18, 10}, {68965, 27900, 14, 10},
+    {68980, 27910, 12, 10}, {68993, 27920, 15, 10}, {69009, 27930, 7, 10}, {69017, 27940, 18, 10},
+    {69036, 27950, 13, 10}, {69050, 27960, 13, 10}, {69064, 27970, 12, 10}, {69077, 27980, 9, 10},
+    {69087, 27990, 16, 10}, {69120, 28000, 26, 10}, {69147, 28010, 21, 10}, {69169, 28020, 22, 10},
+    {69192, 28030, 18, 10}, {69211, 28040, 11, 12}, {69223, 28052, 11, 12}, {69235, 28064, 20, 11},
+    {69256, 28075, 17, 11}, {69274, 28086, 14, 11}, {69289, 28097, 18, 11}, {69308, 28108, 27, 11},
+    {69336, 28119, 22, 11}, {69359, 28119, 4, 11}, {69364, 28130, 20, 11}, {69385, 28141, 25, 11},
+    {69411, 28160, 26, 11}, {69438, 28171, 19, 11}, {69458, 28182, 18, 11}, {69477, 28193, 27, 11},
+    {69505, 28204, 17, 11}, {69523, 28215, 14, 11}, {69538, 28226, 9, 10}, {69548, 28236, 17, 11},
+    {69566, 28247, 28, 11}, {69595, 28258, 15, 11}, {69611, 28269, 17, 11}, {69632, 28280, 19, 11},
+    {69652, 28291, 10, 11}, {69663, 28302, 17, 11}, {69681, 28313, 15, 11}, {69697, 28324, 14, 10},
+    {69712, 28334, 8, 10}, {69721, 28344, 16, 10}, {69738, 28354, 17, 10}, {69756, 28364, 20, 10},
+    {69777, 28374, 15, 10}, {69793, 28384, 15, 10}, {69809, 28394, 14, 10}, {69824, 28404, 15, 10},
+    {69840, 28414, 17, 10}, {69858, 28424, 18, 10}, {69877, 28434, 14, 10}, {69892, 28444, 15, 10},
+    {69908, 28454, 16, 10}, {69925, 28464, 14, 10}, {69940, 28474, 16, 10}, {69957, 28484, 16, 10},
+    {69974, 28494, 21, 10}, {69996, 28504, 13, 10}, {70010, 28514, 15, 10}, {70026, 28524, 12, 10},
+    {70039, 28534, 23, 10}, {70063, 28544, 14, 10}, {70078, 28554, 15, 10}, {70094, 28564, 15, 10},
+    {70110, 28574, 18, 10}, {70144, 28584, 17, 10}, {70162, 28594, 21, 10}, {70184, 28604, 15, 10},
+    {70200, 28614, 21, 10}, {70222, 28624, 20, 10}, {70243, 28634, 12, 10}, {70256, 28644, 15, 10},
+    {70272, 28654, 20, 10}, {70293, 28672, 15, 10}, {70309, 28682, 17, 10}, {70327, 28692, 21, 10},
+    {70349, 28702, 18, 10}, {70368, 28712, 14, 10}, {70383, 28722, 14, 10}, {70398, 28732, 20, 10},
+    {70419, 28742, 29, 10}, {70449, 28752, 21, 10}, {70471, 28762, 16, 10}, {70488, 28772, 27, 10},
+    {70516, 28782, 22, 10}, {70539, 28792, 30, 10}, {70570, 28802, 14, 10}, {70585, 28812, 20, 10},
+    {70606, 28822, 19, 10}, {70626, 28832, 17, 10}, {70656, 28842, 13, 10}, {70670, 28852, 22, 10},
+    {70693, 28862, 22, 10}, {70716, 28872, 23, 10}, {70740, 28882, 25, 10}, {70766, 28892, 21, 10},
+    {70788, 28902, 29, 10}, {70818, 28912, 17, 10}, {70836, 28922, 11, 10}, {70848, 28932, 15, 10},
+    {70864, 28942, 15, 10}, {70880, 28952, 15, 10}, {70896, 28962, 13, 10}, {70910, 28972, 11, 10},
+    {70922, 28982, 10, 10}, {70933, 28992, 17, 10}, {70951, 29002, 18, 10}, {70970, 29012, 26, 10},
+    {70997, 29022, 18, 10}, {71016, 29032, 7, 7}, {71024, 29039, 14, 8}, {71039, 29047, 9, 9}, {71049, 29056, 13, 9},
+    {71063, 29065, 13, 10}, {71077, 29075, 13, 11}, {71091, 29086, 14, 12}, {71106, 29098, 20, 12},
+    {71127, 29110, 23, 12}, {71151, 29122, 12, 12}, {71168, 29134, 13, 12}, {71182, 29146, 15, 12},
+    {71198, 29158, 12, 9}, {71211, 29167, 16, 10}, {71228, 29184, 15, 10}, {71244, 29194, 18, 11},
+    {71263, 29205, 19, 11}, {71283, 29216, 19, 12}, {71303, 29228, 13, 13}, {71317, 29241, 15, 13},
+    {71333, 29254, 12, 13}, {71346, 29267, 13, 13}, {71360, 29280, 17, 13}, {71378, 29293, 16, 13},
+    {71395, 29306, 15, 13}, {71411, 29319, 15, 13}, {71427, 29332, 14, 13}, {71442, 29345, 20, 11},
+    {71463, 29356, 20, 12}, {71484, 29368, 19, 13}, {71504, 29381, 18, 13}, {71523, 29394, 19, 13},
+    {71543, 29407, 14, 13}, {71558, 29420, 20, 11}, {71579, 29431, 20, 12}, {71600, 29443, 17, 13},
+    {71618, 29456, 15, 13}, {71634, 29469, 14, 10}, {71649, 29479, 19, 11}, {71680, 29490, 19, 11},
+    {71700, 29501, 7, 9}, {71708, 29510, 7, 9}, {71716, 29519, 21, 10}, {71738, 29529, 14, 10}, {71753, 29539, 12, 10},
+    {71766, 29549, 12, 11}, {71779, 29560, 11, 12}, {71791, 29572, 14, 12}, {71806, 29584, 13, 12},
+    {71820, 29596, 14, 9}, {71835, 29605, 15, 9}, {71851, 29614, 13, 10}, {71865, 29624, 14, 11},
+    {71880, 29635, 16, 11}, {71897, 29646, 14, 11}, {71912, 29657, 17, 11}, {71930, 29668, 17, 12},
+    {71948, 29680, 18, 13}, {71967, 29696, 18, 13}, {71986, 29709, 15, 10}, {72002, 29719, 14, 11},
+    {72017, 29730, 14, 12}, {72032, 29742, 10, 13}, {72043, 29755, 10, 13}, {72054, 29768, 9, 13},
+    {72064, 29781, 13, 13}, {72078, 29794, 11, 13}, {72090, 29807, 14, 9}, {72105, 29816, 18, 10},
+    {72124, 29826, 18, 11}, {72143, 29837, 15, 12}, {72159, 29849, 17, 12}, {72192, 29861, 14, 9},
+    {72207, 29870, 17, 10}, {72225, 29880, 17, 11}, {72243, 29891, 14, 12}, {72258, 29903, 18, 12},
+    {72277, 29915, 14, 12}, {72292, 29927, 17, 12}, {72310, 29939, 12, 12}, {72323, 29951, 15, 8},
+    {72339, 29959, 21, 9}, {72361, 29968, 21, 10}, {72383, 29978, 21, 10}, {72405, 29988, 20, 10},
+    {72426, 29998, 20, 9}, {72447, 30007, 18, 10}, {72466, 30017, 18, 11}, {72485, 30028, 12, 12},
+    {72498, 30040, 14, 12}, {72513, 30052, 14, 12}, {72528, 30064, 17, 10}, {72546, 30074, 17, 11},
+    {72564, 30085, 15, 12}, {72580, 30097, 22, 12}, {72603, 30109, 18, 12}, {72622, 30121, 18, 12},
+    {72641, 30133, 20, 12}, {72662, 30145, 27, 9}, {72704, 30154, 32, 10}, {72737, 30164, 35, 11},
+    {72773, 30175, 26, 10}, {72800, 30185, 33, 10}, {72834, 30208, 27, 11}, {72862, 30219, 27, 11},
+    {72890, 30230, 19, 10}, {72910, 30240, 17, 11}, {72928, 30251, 16, 11}, {72945, 30262, 16, 12},
+    {72962, 30274, 16, 13}, {72979, 30287, 18, 13}, {72998, 30300, 14, 13}, {73013, 30313, 20, 11},
+    {73034, 30324, 20, 11}, {73055, 30335, 18, 11}, {73074, 30346, 16, 11}, {73091, 30357, 20, 11},
+    {73112, 30368, 20, 11}, {73133, 30379, 19, 11}, {73153, 30390, 19, 8}, {73173, 30398, 16, 9},
+    {73190, 30407, 10, 10}, {73216, 30417, 15, 10}, {73232, 30427, 16, 9}, {73249, 30436, 6, 10}, {73256, 30446, 14, 9},
+    {73271, 30455, 16, 10}, {73288, 30465, 17, 10}, {73306, 30475, 20, 10}, {73327, 30485, 20, 10},
+    {73348, 30495, 20, 10}, {73369, 30505, 21, 10}, {73391, 30515, 18, 10}, {73410, 30525, 20, 10},
+    {73431, 30535, 21, 10}, {73453, 30545, 19, 10}, {73473, 30555, 25, 8}, {73499, 30563, 20, 9},
+    {73520, 30572, 13, 10}, {73534, 30582, 16, 10}, {73551, 30592, 15, 10}, {73567, 30602, 26, 9},
+    {73594, 30611, 18, 8}, {73613, 30619, 18, 9}, {73632, 30628, 13, 9}, {73646, 30637, 13, 10}, {73660, 30647, 12, 10},
+    {73673, 30657, 14, 10}, {73688, 30667, 12, 11}, {73701, 30678, 14, 11}, {73728, 30689, 18, 10},
+    {73747, 30699, 18, 10}, {73766, 30720, 19, 9}, {73786, 30729, 14, 11}, {73801, 30740, 15, 10},
+    {73817, 30740, 22, 10}, {73840, 30740, 30, 10}, {73871, 30740, 13, 10}, {73885, 30740, 38, 10},
+    {73924, 30740, 33, 10}, {73958, 30750, 17, 10}, {73976, 30750, 24, 10}, {74001, 30750, 8, 10},
+    {74010, 30760, 17, 10}, {74028, 30760, 24, 10}, {74053, 30770, 12, 10}, {74066, 30770, 19, 10},
+    {74086, 30780, 9, 9}, {74096, 30780, 6, 9}, {74103, 30789, 10, 9}, {74114, 30789, 13, 9}, {74128, 30798, 8, 10},
+    {74137, 30808, 8, 10}, {74146, 30818, 11, 10}, {74158, 30828, 9, 10}, {74168, 30838, 10, 10},
+    {74179, 30848, 13, 10}, {74193, 30858, 14, 10}, {74208, 30868, 13, 10}, {74222, 30878, 12, 10},
+    {74240, 30888, 9, 10}, {74250, 30898, 8, 10}, {74259, 30908, 31, 11}, {74291, 30919, 12, 14},
+    {74304, 30933, 13, 14}, {74318, 30947, 16, 12}, {74335, 30959, 17, 11}, {74353, 30970, 11, 11},
+    {74365, 30981, 16, 11}, {74382, 30992, 17, 11}, {74400, 31003, 25, 11}, {74426, 31014, 8, 11},
+    {74435, 31025, 8, 11}, {74444, 31036, 18, 11}, {74463, 31047, 21, 11}, {74485, 31058, 25, 11},
+    {74511, 31069, 23, 11}, {74535, 31080, 19, 11}, {74555, 31091, 21, 11}, {74577, 31102, 23, 11},
+    {74601, 31113, 21, 11}, {74623, 31124, 15, 11}, {74639, 31135, 25, 11}, {74665, 31146, 15, 11},
+    {74681, 31157, 22, 11}, {74704, 31168, 24, 11}, {74752, 31179, 22, 9}, {74775, 31179, 40, 9},
+    {74816, 31188, 19, 10}, {74836, 31198, 8, 4}, {74845, 31198, 8, 4}, {74854, 31202, 10, 5}, {74865, 31202, 7, 5},
+    {74873, 31207, 13, 6}, {74887, 31213, 9, 6}, {74897, 31219, 18, 7}, {74916, 31232, 19, 7}, {74936, 31239, 18, 7},
+    {74955, 31246, 16, 7}, {74972, 31246, 18, 7}, {74991, 31246, 22, 7}, {75014, 31246, 19, 7}, {75034, 31253, 9, 7},
+    {75044, 31253, 20, 7}, {75065, 31253, 15, 7}, {75081, 31253, 19, 7}, {75101, 31253, 18, 7}, {75120, 31253, 12, 7},
+    {75133, 31260, 13, 7}, {75147, 31267, 21, 8}, {75169, 31275, 23, 8}, {75193, 31283, 23, 8}, {75217, 31291, 23, 8},
+    {75241, 31299, 15, 6}, {75264, 31305, 6, 7}, {75271, 31312, 6, 6}, {75278, 31312, 5, 6}, {75284, 31318, 4, 6},
+    {75289, 31318, 10, 6}, {75300, 31318, 7, 6}, {75308, 31324, 11, 7}, {75320, 31331, 20, 8}, {75341, 31339, 20, 8},
+    {75362, 31347, 20, 8}, {75383, 31355, 20, 8}, {75404, 31363, 11, 8}, {75416, 31371, 10, 8}, {75427, 31379, 21, 8},
+    {75449, 31387, 21, 8}, {75471, 31395, 10, 8}, {75482, 31403, 24, 8}, {75507, 31411, 24, 8}, {75532, 31419, 21, 8},
+    {75554, 31427, 25, 8}, {75580, 31435, 11, 8}, {75592, 31443, 11, 8}, {75604, 31451, 14, 8}, {75619, 31459, 17, 8},
+    {75637, 31467, 17, 8}, {75655, 31475, 17, 8}, {75673, 31483, 13, 7}, {75687, 31483, 5, 7}, {75693, 31490, 19, 8},
+    {75713, 31490, 28, 8}, {75742, 31490, 27, 8}, {75776, 31490, 14, 8}, {75791, 31490, 28, 8}, {75820, 31490, 25, 8},
+    {75846, 31498, 13, 8}, {75860, 31498, 14, 8}, {75875, 31498, 19, 8}, {75895, 31498, 19, 8}, {75915, 31506, 12, 8},
+    {75928, 31506, 18, 8}, {75947, 31506, 23, 8}, {75971, 31514, 14, 8}, {75986, 31514, 16, 8}, {76003, 31514, 21, 8},
+    {76025, 31514, 14, 8}, {76040, 31522, 12, 8}, {76053, 31530, 10, 8}, {76064, 31538, 16, 8}, {76081, 31538, 18, 8},
+    {76100, 31538, 18, 8}, {76119, 31546, 21, 8}, {76141, 31546, 22, 8}, {76164, 31546, 22, 8}, {76187, 31554, 21, 8},
+    {76209, 31562, 11, 8}, {76221, 31570, 17, 8}, {76239, 31570, 26, 8}, {76288, 31570, 25, 8}, {76314, 31570, 19, 8},
+    {76334, 31570, 26, 8}, {76361, 31570, 23, 8}, {76385, 31578, 14, 8}, {76400, 31578, 18, 8}, {76419, 31586, 14, 8},
+    {76434, 31594, 13, 8}, {76448, 31594, 29, 8}, {76478, 31594, 19, 8}, {76498, 31602, 27, 8}, {76526, 31610, 26, 8},
+    {76553, 31618, 26, 8}, {76580, 31618, 35, 8}, {76616, 31626, 10, 8}, {76627, 31626, 11, 8}, {76639, 31626, 11, 8},
+    {76651, 31626, 16, 8}, {76668, 31626, 22, 8}, {76691, 31626, 13, 8}, {76705, 31626, 43, 8}, {76749, 31626, 12, 8},
+    {76762, 31626, 11, 8}, {76774, 31626, 16, 8}, {76800, 31634, 13, 8}, {76814, 31642, 16, 8}, {76831, 31642, 16, 8},
+    {76848, 31650, 25, 8}, {76874, 31658, 18, 8}, {76893, 31658, 21, 8}, {76915, 31666, 23, 8}, {76939, 31666, 25, 8},
+    {76965, 31674, 15, 8}, {76981, 31682, 20, 8}, {77002, 31682, 14, 8}, {77017, 31690, 5, 7}, {77023, 31697, 20, 8},
+    {77044, 31697, 31, 8}, {77076, 31697, 3, 8}, {77080, 31697, 26, 8}, {77107, 31697, 32, 8}, {77140, 31697, 9, 8},
+    {77150, 31705, 28, 8}, {77179, 31705, 38, 8}, {77218, 31705, 11, 8}, {77230, 31705, 26, 8}, {77257, 31705, 11, 8},
+    {77269, 31705, 13, 8}, {77283, 31713, 10, 8}, {77294, 31721, 13, 7}, {77312, 31721, 5, 7}, {77318, 31728, 10, 8},
+    {77329, 31728, 29, 8}, {77359, 31728, 25, 8}, {77385, 31728, 21, 8}, {77407, 31728, 14, 8}, {77422, 31728, 41, 8},
+    {77464, 31728, 21, 8}, {77486, 31728, 11, 8}, {77498, 31728, 16, 8}, {77515, 31744, 10, 8}, {77526, 31744, 29, 8},
+    {77556, 31744, 25, 8}, {77582, 31744, 21, 8}, {77604, 31744, 14, 8}, {77619, 31744, 41, 8}, {77661, 31744, 21, 8},
+    {77683, 31744, 11, 8}, {77695, 31744, 16, 8}, {77712, 31752, 11, 8}, {77724, 31752, 12, 8}, {77737, 31752, 26, 8},
+    {77764, 31752, 24, 8}, {77789, 31752, 22, 8}, {77824, 31752, 12, 8}, {77837, 31752, 17, 8}, {77855, 31760, 15, 8},
+    {77871, 31760, 17, 8}, {77889, 31760, 30, 8}, {77920, 31760, 12, 8}, {77933, 31760, 16, 8}, {77950, 31760, 29, 8},
+    {77980, 31760, 26, 8}, {78007, 31760, 16, 8}, {78024, 31760, 21, 8}, {78046, 31768, 14, 8}, {78061, 31768, 16, 8},
+    {78078, 31768, 20, 8}, {78099, 31768, 30, 8}, {78130, 31768, 22, 8}, {78153, 31768, 25, 8}, {78179, 31768, 16, 8},
+    {78196, 31768, 20, 8}, {78217, 31776, 11, 8}, {78229, 31776, 12, 8}, {78242, 31776, 17, 8}, {78260, 31776, 26, 8},
+    {78287, 31776, 30, 8}, {78336, 31776, 22, 8}, {78359, 31776, 12, 8}, {78372, 31776, 17, 8}, {78390, 31784, 9, 8},
+    {78400, 31784, 10, 8}, {78411, 31784, 15, 8}, {78427, 31784, 24, 8}, {78452, 31784, 16, 8}, {78469, 31784, 20, 8},
+    {78490, 31784, 10, 8}, {78501, 31784, 15, 8}, {78517, 31792, 12, 8}, {78530, 31792, 13, 8}, {78544, 31792, 31, 8},
+    {78576, 31792, 24, 8}, {78601, 31792, 23, 8}, {78625, 31792, 13, 8}, {78639, 31792, 18, 8}, {78658, 31800, 11, 8},
+    {78670, 31800, 12, 8}, {78683, 31800, 22, 8}, {78706, 31800, 12, 8}, {78719, 31800, 17, 8}, {78737, 31808, 4, 8},
+    {78742, 31808, 4, 8}, {78747, 31816, 16, 8}, {78764, 31816, 12, 8}, {78777, 31824, 16, 8}, {78794, 31824, 12, 8},
+    {78807, 31832, 11, 8}, {78819, 31840, 11, 8}, {78831, 31848, 8, 8}, {78848, 31848, 27, 8}, {78876, 31848, 9, 8},
+    {78886, 31848, 21, 8}, {78908, 31848, 9, 8}, {78918, 31856, 8, 8}, {78927, 31856, 25, 8}, {78953, 31856, 9, 8},
+    {78963, 31864, 9, 8}, {78973, 31864, 30, 8}, {79004, 31864, 10, 8}, {79015, 31872, 15, 8}, {79031, 31872, 10, 8},
+    {79042, 31880, 17, 8}, {79060, 31880, 10, 8}, {79071, 31880, 23, 8}, {79095, 31880, 19, 8}, {79115, 31880, 23, 8},
+    {79139, 31888, 17, 8}, {79157, 31888, 10, 8}, {79168, 31888, 23, 8}, {79192, 31888, 19, 8}, {79212, 31888, 23, 8},
+    {79236, 31896, 10, 8}, {79247, 31896, 11, 8}, {79259, 31896, 11, 8}, {79271, 31904, 17, 8}, {79289, 31904, 19, 8},
+    {79309, 31904, 19, 8}, {79329, 31912, 9, 8}, {79339, 31912, 10, 8}, {79360, 31912, 10, 8}, {79371, 31920, 16, 8},
+    {79388, 31920, 18, 8}, {79407, 31920, 18, 8}, {79426, 31928, 5, 8}, {79432, 31928, 25, 8}, {79458, 31928, 11, 8},
+    {79470, 31928, 6, 8}, {79477, 31936, 5, 8}, {79483, 31936, 26, 8}, {79510, 31936, 11, 8}, {79522, 31936, 16, 8},
+    {79539, 31936, 6, 8}, {79546, 31944, 10, 8}, {79557, 31944, 18, 8}, {79576, 31944, 11, 8}, {79588, 31952, 19, 8},
+    {79608, 31952, 13, 8}, {79622, 31952, 14, 8}, {79637, 31960, 44, 8}, {79682, 31960, 42, 8}, {79725, 31968, 5, 8},
+    {79731, 31968, 47, 8}, {79779, 31976, 25, 8}, {79805, 31984, 26, 8}, {79832, 31992, 13, 8}, {79846, 32000, 21, 8},
+    {79872, 32008, 21, 8}, {79894, 32016, 16, 8}, {79911, 32024, 17, 8}, {79929, 32032, 19, 8}, {79949, 32040, 10, 8},
+    {79960, 32048, 26, 9}, {79987, 32057, 16, 9}, {80004, 32066, 20, 9}, {80025, 32075, 12, 8}, {80038, 32083, 23, 8},
+    {80062, 32083, 19, 8}, {80082, 32083, 30, 8}, {80113, 32091, 13, 8}, {80127, 32099, 22, 8}, {80150, 32107, 22, 8},
+    {80173, 32115, 22, 8}, {80196, 32123, 22, 8}, {80219, 32131, 24, 8}, {80244, 32139, 24, 8}, {80269, 32147, 19, 8},
+    {80289, 32155, 18, 8}, {80308, 32163, 25, 8}, {80334, 32163, 20, 8}, {80355, 32171, 20, 8}, {80384, 32179, 14, 8},
+    {80399, 32179, 8, 8}, {80408, 32187, 9, 8}, {80418, 32195, 12, 8}, {80431, 32195, 7, 8}, {80439, 32203, 14, 8},
+    {80454, 32203, 8, 8}, {80463, 32211, 21, 8}, {80485, 32211, 17, 8}, {80503, 32219, 18, 8}, {80522, 32219, 17, 8},
+    {80540, 32227, 19, 8}, {80560, 32227, 12, 8}, {80573, 32227, 18, 8}, {80592, 32235, 13, 8}, {80606, 32235, 6, 8},
+    {80613, 32235, 10, 8}, {80624, 32243, 27, 8}, {80652, 32243, 20, 8}, {80673, 32243, 26, 8}, {80700, 32256, 25, 8},
+    {80726, 32256, 18, 8}, {80745, 32256, 24, 8}, {80770, 32264, 19, 8}, {80790, 32272, 15, 8}, {80806, 32280, 17, 8},
+    {80824, 32288, 11, 8}, {80836, 32296, 15, 8}, {80852, 32304, 22, 8}, {80896, 32312, 22, 8}, {80919, 32320, 10, 8},
+    {80930, 32328, 15, 8}, {80946, 32336, 17, 8}, {80964, 32344, 19, 8}, {80984, 32344, 13, 8}, {80998, 32352, 10, 8},
+    {81009, 32352, 4, 8}, {81014, 32360, 15, 8}, {81030, 32368, 18, 8}, {81049, 32376, 17, 8}, {81067, 32384, 18, 8},
+    {81086, 32384, 12, 8}, {81099, 32392, 17, 8}, {81117, 32392, 11, 8}, {81129, 32400, 18, 8}, {81148, 32400, 11, 8},
+    {81160, 32408, 20, 7}, {81181, 32408, 5, 7}, {81187, 32415, 4, 8}, {81192, 32415, 15, 8}, {81208, 32415, 41, 8},
+    {81250, 32415, 39, 8}, {81290, 32415, 10, 8}, {81301, 32415, 12, 8}, {81314, 32423, 17, 9}, {81332, 32423, 19, 9},
+    {81352, 32423, 37, 9}, {81408, 32423, 17, 9}, {81426, 32423, 19, 9}, {81446, 32423, 19, 9}, {81466, 32423, 18, 9},
+    {81485, 32432, 5, 9}, {81491, 32432, 10, 9}, {81502, 32432, 21, 9}, {81524, 32432, 9, 9}, {81534, 32432, 12, 9},
+    {81547, 32432, 20, 9}, {81568, 32432, 18, 9}, {81587, 32441, 5, 9}, {81593, 32441, 11, 9}, {81605, 32441, 3, 9},
+    {81609, 32450, 19, 9}, {81629, 32450, 25, 9}, {81655, 32450, 20, 9}, {81676, 32459, 7, 9}, {81684, 32459, 13, 9},
+    {81698, 32459, 23, 9}, {81722, 32459, 11, 9}, {81734, 32459, 23, 9}, {81758, 32459, 13, 9}, {81772, 32459, 20, 9},
+    {81793, 32468, 13, 9}, {81807, 32468, 19, 9}, {81827, 32468, 14, 9}, {81842, 32477, 14, 9}, {81857, 32477, 20, 9},
+    {81878, 32477, 15, 9}, {81894, 32486, 14, 9}, {81920, 32486, 20, 9}, {81941, 32486, 30, 9}, {81972, 32495, 5, 9},
+    {81978, 32495, 15, 9}, {81994, 32504, 4, 9}, {81999, 32513, 9, 9}, {82009, 32513, 10, 9}, {82020, 32522, 9, 8},
+    {82030, 32522, 10, 8}, {82041, 32522, 21, 8}, {82063, 32522, 29, 8}, {82093, 32522, 10, 8}, {82104, 32522, 15, 8},
+    {82120, 32530, 15, 8}, {82136, 32530, 16, 8}, {82153, 32530, 24, 8}, {82178, 32530, 18, 8}, {82197, 32538, 7, 8},
+    {82205, 32538, 7, 8}, {82213, 32546, 12, 8}, {82226, 32546, 13, 8}, {82240, 32546, 24, 8}, {82265, 32546, 13, 8},
+    {82279, 32546, 18, 8}, {82298, 32554, 16, 8}, {82315, 32562, 15, 8}, {82331, 32570, 12, 8}, {82344, 32570, 13, 8},
+    {82358, 32570, 18, 8}, {82377, 32578, 12, 8}, {82390, 32578, 13, 8}, {82404, 32578, 18, 8}, {82432, 32586, 9, 8},
+    {82442, 32594, 10, 8}, {82453, 32594, 11, 8}, {82465, 32602, 16, 8}, {82482, 32610, 8, 8}, {82491, 32610, 8, 8},
+    {82500, 32618, 13, 8}, {82514, 32626, 31, 8}, {82546, 32626, 28, 8}, {82575, 32626, 27, 8}, {82603, 32626, 22, 8},
+    {82626, 32626, 16, 8}, {82643, 32634, 6, 6}, {82650, 32640, 18, 6}, {82669, 32646, 20, 6}, {82690, 32652, 6, 4},
+    {82697, 32652, 6, 4}, {82704, 32652, 6, 4}, {82711, 32656, 11, 5}, {82723, 32661, 10, 5}, {82734, 32666, 11, 5},
+    {82746, 32671, 7, 6}, {82754, 32677, 14, 7}, {82769, 32684, 8, 8}, {82778, 32692, 11, 9}, {82790, 32701, 18, 9},
+    {82809, 32710, 9, 8}, {82819, 32718, 9, 9}, {82829, 32727, 9, 9}, {82839, 32736, 8, 9}, {82848, 32745, 6, 9},
+    {82855, 32754, 21, 9}, {82877, 32768, 7, 8}, {82885, 32776, 15, 9}, {82901, 32785, 18, 7}, {82920, 32792, 18, 8},
+    {82944, 32800, 19, 9}, {82964, 32809, 23, 9}, {82988, 32818, 13, 8}, {83002, 32826, 12, 9}, {83015, 32835, 11, 9},
+    {83027, 32844, 27, 9}, {83055, 32853, 9, 9}, {83065, 32862, 18, 9}, {83084, 32871, 17, 9}, {83102, 32880, 30, 9},
+    {83133, 32889, 21, 9}, {83155, 32898, 16, 6}, {83172, 32904, 18, 7}, {83191, 32911, 17, 8}, {83209, 32919, 17, 9},
+    {83227, 32928, 22, 9}, {83250, 32937, 22, 9}, {83273, 32946, 17, 8}, {83291, 32954, 17, 9}, {83309, 32963, 18, 9},
+    {83328, 32972, 23, 7}, {83352, 32979, 10, 8}, {83363, 32987, 12, 9}, {83376, 32996, 15, 9}, {83392, 33005, 14, 9},
+    {83407, 33014, 24, 9}, {83432, 33023, 10, 6}, {83456, 33029, 13, 7}, {83470, 33036, 8, 8}, {83479, 33044, 28, 9},
+    {83508, 33053, 24, 9}, {83533, 33062, 24, 9}, {83558, 33071, 24, 9}, {83583, 33080, 20, 9}, {83604, 33089, 24, 9},
+    {83629, 33098, 7, 8}, {83637, 33106, 15, 9}, {83653, 33115, 12, 9}, {83666, 33124, 12, 10}, {83679, 33134, 15, 11},
+    {83695, 33145, 11, 11}, {83707, 33156, 19, 11}, {83727, 33167, 16, 11}, {83744, 33178, 19, 11},
+    {83764, 33189, 20, 11}, {83785, 33200, 23, 11}, {83809, 33211, 19, 11}, {83829, 33222, 20, 11},
+    {83850, 33233, 23, 11}, {83874, 33244, 13, 11}, {83888, 33255, 18, 11}, {83907, 33266, 13, 11},
+    {83921, 33280, 11, 6}, {83933, 33286, 14, 7}, {83948, 33293, 16, 8}, {83968, 33301, 16, 9}, {83985, 33310, 15, 10},
+    {84001, 33320, 17, 10}, {84019, 33330, 24, 8}, {84044, 33338, 24, 9}, {84069, 33347, 17, 10},
+    {84087, 33357, 16, 10}, {84104, 33367, 13, 10}, {84118, 33377, 30, 10}, {84149, 33387, 25, 10},
+    {84175, 33397, 15, 8}, {84191, 33405, 15, 9}, {84207, 33414, 23, 10}, {84231, 33424, 23, 10},
+    {84255, 33434, 23, 10}, {84279, 33444, 22, 10}, {84302, 33454, 22, 10}, {84325, 33464, 23, 10},
+    {84349, 33474, 24, 10}, {84374, 33484, 21, 10}, {84396, 33494, 16, 10}, {84413, 33504, 12, 8},
+    {84426, 33512, 16, 9}, {84443, 33521, 23, 9}, {84480, 33530, 23, 10}, {84504, 33540, 26, 11},
+    {84531, 33551, 25, 11}, {84557, 33562, 22, 11}, {84580, 33573, 22, 11}, {84603, 33584, 29, 11},
+    {84633, 33595, 24, 11}, {84658, 33606, 4, 4}, {84663, 33610, 8, 5}, {84672, 33610, 8, 5}, {84681, 33615, 17, 6},
+    {84699, 33621, 22, 7}, {84722, 33628, 24, 7}, {84747, 33635, 15, 6}, {84763, 33641, 3, 2}, {84767, 33643, 9, 4},
+    {84777, 33647, 10, 5}, {84788, 33647, 10, 5}, {84799, 33652, 7, 5}, {84807, 33652, 7, 5}, {84815, 33657, 7, 5},
+    {84823, 33657, 7, 5}, {84831, 33657, 6, 5}, {84838, 33657, 7, 5}, {84846, 33657, 3, 5}, {84850, 33662, 7, 5},
+    {84858, 33662, 7, 5}, {84866, 33667, 7, 5}, {84874, 33667, 7, 5}, {84882, 33672, 7, 5}, {84890, 33677, 12, 5},
+    {84903, 33682, 7, 5}, {84911, 33682, 17, 5}, {84929, 33687, 7, 5}, {84937, 33687, 10, 5}, {84948, 33692, 7, 5},
+    {84956, 33692, 20, 5}, {84977, 33697, 7, 5}, {84992, 33697, 7, 5}, {85000, 33697, 11, 5}, {85012, 33697, 6, 5},
+    {85019, 33702, 3, 5}, {85023, 33702, 3, 5}, {85027, 33707, 5, 5}, {85033, 33707, 4, 5}, {85038, 33707, 4, 5},
+    {85043, 33707, 9, 5}, {85053, 33707, 5, 5}, {85059, 33707, 7, 5}, {85067, 33712, 12, 5}, {85080, 33712, 15, 5},
+    {85096, 33717, 10, 5}, {85107, 33717, 11, 5}, {85119, 33722, 11, 8}, {85131, 33730, 9, 5}, {85141, 33730, 9, 5},
+    {85151, 33730, 6, 5}, {85158, 33730, 10, 5}, {85169, 33730, 6, 5}, {85176, 33735, 13, 6}, {85190, 33735, 16, 6},
+    {85207, 33735, 10, 6}, {85218, 33741, 16, 5}, {85235, 33741, 47, 5}, {85283, 33741, 10, 5}, {85294, 33746, 7, 5},
+    {85302, 33746, 18, 5}, {85321, 33751, 6, 3}, {85328, 33751, 13, 3}, {85342, 33751, 9, 3}, {85352, 33754, 4, 3},
+    {85357, 33754, 11, 3}, {85369, 33754, 7, 3}, {85377, 33757, 7, 3}, {85385, 33757, 7, 3}, {85393, 33757, 13, 3},
+    {85407, 33757, 15, 3}, {85423, 33757, 11, 3}, {85435, 33757, 10, 3}, {85446, 33760, 5, 3}, {85452, 33760, 5, 3},
+    {85458, 33760, 11, 3}, {85470, 33760, 13, 3}, {85484, 33760, 8, 3}, {85493, 33763, 4, 2}, {85504, 33765, 10, 5},
+    {85515, 33765, 38, 5}, {85554, 33770, 11, 8}, {85566, 33770, 11, 8}, {85578, 33778, 11, 8}, {85590, 33778, 11, 8},
+    {85602, 33786, 12, 3}, {85615, 33792, 5, 5}, {85621, 33792, 10, 5}, {85632, 33792, 8, 5}, {85641, 33797, 9, 5},
+    {85651, 33802, 9, 5}, {85661, 33807, 9, 5}, {85671, 33812, 9, 5}, {85681, 33817, 9, 5}, {85691, 33822, 9, 5},
+    {85701, 33827, 9, 5}, {85711, 33832, 9, 5}, {85721, 33837, 9, 5}, {85731, 33842, 5, 5}, {85737, 33842, 10, 5},
+    {85748, 33847, 5, 5}, {85754, 33847, 10, 5}, {85765, 33847, 8, 5}, {85774, 33852, 5, 5}, {85780, 33852, 10, 5},
+    {85791, 33857, 9, 5}, {85801, 33862, 9, 5}, {85811, 33867, 9, 5}, {85821, 33872, 9, 5}, {85831, 33877, 5, 5},
+    {85837, 33877, 10, 5}, {85848, 33877, 8, 5}, {85857, 33882, 5, 5}, {85863, 33882, 10, 5}, {85874, 33882, 8, 5},
+    {85883, 33887, 9, 5}, {85893, 33892, 9, 5}, {85903, 33897, 9, 5}, {85913, 33902, 9, 5}, {85923, 33907, 9, 5},
+    {85933, 33912, 5, 5}, {85939, 33912, 10, 5}, {85950, 33912, 4, 5}, {85955, 33912, 8, 5}, {85964, 33912, 8, 5},
+    {85973, 33917, 5, 5}, {85979, 33917, 8, 5}, {85988, 33917, 10, 5}, {85999, 33917, 4, 5}, {86004, 33917, 8, 5},
+    {86016, 33922, 5, 5}, {86022, 33922, 8, 5}, {86031, 33922, 10, 5}, {86042, 33922, 4, 5}, {86047, 33922, 8, 5},
+    {86056, 33927, 5, 5}, {86062, 33927, 10, 5}, {86073, 33927, 8, 5}, {86082, 33932, 5, 5}, {86088, 33932, 10, 5},
+    {86099, 33932, 8, 5}, {86108, 33937, 5, 5}, {86114, 33937, 10, 5}, {86125, 33937, 8, 5}, {86134, 33942, 5, 5},
+    {86140, 33942, 10, 5}, {86151, 33947, 7, 5}, {86159, 33947, 4, 5}, {86164, 33947, 7, 5}, {86172, 33952, 4, 1},
+    {86177, 33952, 26, 1}, {86204, 33953, 24, 3}, {86229, 33953, 24, 3}, {86254, 33956, 9, 4}, {86264, 33960, 4, 2},
+    {86269, 33960, 5, 2}, {86275, 33962, 16, 3}, {86292, 33965, 16, 3}, {86309, 33965, 11, 3}, {86321, 33965, 16, 3},
+    {86338, 33965, 11, 3}, {86350, 33965, 16, 3}, {86367, 33968, 13, 3}, {86381, 33968, 13, 3}, {86395, 33971, 18, 3},
+    {86414, 33971, 13, 3}, {86428, 33971, 18, 3}, {86447, 33971, 13, 3}, {86461, 33971, 18, 3}, {86480, 33974, 17, 3},
+    {86498, 33974, 17, 3}, {86528, 33974, 12, 3}, {86541, 33974, 17, 3}, {86559, 33977, 18, 3}, {86578, 33977, 18, 3},
+    {86597, 33977, 13, 3}, {86611, 33977, 18, 3}, {86630, 33980, 25, 3}, {86656, 33980, 1, 3}, {86658, 33980, 16, 3},
+    {86675, 33980, 14, 3}, {86690, 33980, 9, 3}, {86700, 33980, 27, 3}, {86728, 33980, 22, 3}, {86751, 33980, 25, 3},
+    {86777, 33983, 19, 3}, {86797, 33983, 14, 3}, {86812, 33986, 22, 3}, {86835, 33986, 7, 3}, {86843, 33986, 22, 3},
+    {86866, 33986, 17, 3}, {86884, 33986, 22, 3}, {86907, 33989, 28, 3}, {86936, 33989, 19, 3}, {86956, 33989, 11, 3},
+    {86968, 33989, 29, 3}, {86998, 33989, 24, 3}, {87040, 33989, 28, 3}, {87069, 33992, 11, 3}, {87081, 33992, 1, 3},
+    {87083, 33992, 11, 3}, {87095, 33995, 17, 3}, {87113, 33995, 17, 3}, {87131, 33998, 14, 3}, {87146, 34001, 11, 3},
+    {87158, 34001, 11, 3}, {87170, 34004, 5, 3}, {87176, 34004, 6, 3}, {87183, 34007, 28, 4}, {87212, 34011, 12, 3},
+    {87225, 34011, 16, 3}, {87242, 34014, 3, 3}, {87246, 34014, 10, 3}, {87257, 34017, 8, 3}, {87266, 34020, 13, 3},
+    {87280, 34023, 21, 3}, {87302, 34023, 16, 3}, {87319, 34023, 21, 3}, {87341, 34026, 14, 3}, {87356, 34029, 27, 3},
+    {87384, 34032, 10, 3}, {87395, 34032, 10, 3}, {87406, 34035, 15, 3}, {87422, 34035, 1, 3}, {87424, 34035, 10, 3},
+    {87435, 34035, 15, 3}, {87451, 34035, 10, 3}, {87462, 34035, 15, 3}, {87478, 34038, 14, 3}, {87493, 34038, 1, 3},
+    {87495, 34038, 14, 3}, {87510, 34041, 25, 3}, {87552, 34041, 20, 3}, {87573, 34041, 20, 3}, {87594, 34041, 25, 3},
+    {87620, 34044, 17, 3}, {87638, 34044, 17, 3}, {87656, 34047, 17, 3}, {87674, 34047, 12, 3}, {87687, 34047, 17, 3},
+    {87705, 34047, 12, 3}, {87718, 34047, 17, 3}, {87736, 34050, 18, 3}, {87755, 34053, 16, 3}, {87772, 34056, 20, 3},
+    {87793, 34059, 15, 3}, {87809, 34059, 15, 3}, {87825, 34062, 29, 3}, {87855, 34065, 34, 3}, {87890, 34068, 13, 3},
+    {87904, 34071, 30, 3}, {87935, 34074, 32, 3}, {87968, 34077, 15, 3}, {87984, 34077, 15, 3}, {88000, 34080, 13, 3},
+    {88014, 34083, 10, 3}, {88025, 34086, 4, 3}, {88030, 34089, 14, 3}, {88045, 34092, 14, 3}, {88064, 34095, 16, 3},
+    {88081, 34098, 13, 3}, {88095, 34101, 22, 3}, {88118, 34101, 23, 3}, {88142, 34104, 2, 3}, {88145, 34104, 13, 3},
+    {88159, 34107, 2, 3}, {88162, 34107, 13, 3}, {88176, 34110, 7, 3}, {88184, 34113, 7, 3}, {88192, 34116, 5, 3},
+    {88198, 34119, 6, 3}, {88205, 34122, 24, 3}, {88230, 34125, 15, 3}, {88246, 34128, 17, 3}, {88264, 34131, 24, 3},
+    {88289, 34134, 14, 2}, {88304, 34134, 31, 2}, {88336, 34136, 3, 4}, {88340, 34136, 3, 4}, {88344, 34140, 8, 4},
+    {88353, 34140, 11, 4}, {88365, 34144, 4, 4}, {88370, 34144, 4, 4}, {88375, 34148, 26, 3}, {88402, 34151, 30, 3},
+    {88433, 34154, 25, 3}, {88459, 34157, 15, 3}, {88475, 34160, 5, 2}, {88481, 34162, 30, 3}, {88512, 34165, 20, 3},
+    {88533, 34168, 27, 3}, {88576, 34171, 22, 3}, {88599, 34174, 21, 3}, {88621, 34177, 26, 3}, {88648, 34177, 35, 3},
+    {88684, 34177, 23, 3}, {88708, 34177, 28, 3}, {88737, 34177, 40, 3}, {88778, 34177, 28, 3}, {88807, 34180, 23, 3},
+    {88831, 34183, 20, 3}, {88852, 34183, 29, 3}, {88882, 34183, 28, 3}, {88911, 34183, 22, 3}, {88934, 34183, 14, 3},
+    {88949, 34183, 12, 3}, {88962, 34183, 26, 3}, {88989, 34183, 14, 3}, {89004, 34183, 26, 3}, {89031, 34186, 8, 3},
+    {89040, 34186, 16, 3}, {89057, 34186, 15, 3}, {89073, 34186, 9, 3}, {89088, 34186, 10, 3}, {89099, 34186, 21, 3},
+    {89121, 34186, 9, 3}, {89131, 34186, 14, 3}, {89146, 34189, 21, 3}, {89168, 34189, 31, 3}, {89200, 34189, 29, 3},
+    {89230, 34189, 24, 3}, {89255, 34189, 15, 3}, {89271, 34189, 36, 3}, {89308, 34189, 24, 3}, {89333, 34192, 14, 3},
+    {89348, 34192, 31, 3}, {89380, 34192, 23, 3}, {89404, 34192, 24, 3}, {89429, 34192, 17, 3}, {89447, 34192, 25, 3},
+    {89473, 34192, 22, 3}, {89496, 34192, 28, 3}, {89525, 34192, 16, 3}, {89542, 34192, 20, 3}, {89563, 34195, 13, 3},
+    {89600, 34195, 30, 3}, {89631, 34195, 22, 3}, {89654, 34195, 23, 3}, {89678, 34195, 21, 3}, {89700, 34195, 27, 3},
+    {89728, 34195, 15, 3}, {89744, 34195, 19, 3}, {89764, 34198, 16, 3}, {89781, 34198, 24, 3}, {89806, 34198, 24, 3},
+    {89831, 34198, 17, 3}, {89849, 34198, 29, 3}, {89879, 34198, 17, 3}, {89897, 34198, 22, 3}, {89920, 34201, 9, 3},
+    {89930, 34201, 17, 3}, {89948, 34201, 16, 3}, {89965, 34201, 10, 3}, {89976, 34201, 10, 3}, {89987, 34201, 15, 3},
+    {90003, 34204, 9, 3}, {90013, 34204, 22, 3}, {90036, 34204, 21, 3}, {90058, 34204, 15, 3}, {90074, 34204, 10, 3},
+    {90085, 34204, 10, 3}, {90112, 34204, 16, 3}, {90129, 34207, 19, 3}, {90149, 34207, 21, 3}, {90171, 34207, 22, 3},
+    {90194, 34207, 25, 3}, {90220, 34207, 21, 3}, {90242, 34210, 14, 3}, {90257, 34210, 15, 3}, {90273, 34210, 15, 3},
+    {90289, 34210, 20, 3}, {90310, 34213, 8, 3}, {90319, 34213, 26, 3}, {90346, 34213, 25, 3}, {90372, 34213, 19, 3},
+    {90392, 34213, 17, 3}, {90410, 34213, 19, 3}, {90430, 34213, 23, 3}, {90454, 34216, 24, 3}, {90479, 34216, 33, 3},
+    {90513, 34216, 24, 3}, {90538, 34216, 26, 3}, {90565, 34216, 26, 3}, {90624, 34216, 30, 3}, {90655, 34219, 17, 3},
+    {90673, 34219, 25, 3}, {90699, 34219, 18, 3}, {90718, 34219, 28, 3}, {90747, 34219, 18, 3}, {90766, 34219, 23, 3},
+    {90790, 34222, 15, 3}, {90806, 34222, 23, 3}, {90830, 34222, 22, 3}, {90853, 34222, 16, 3}, {90870, 34222, 28, 3},
+    {90899, 34222, 16, 3}, {90916, 34222, 21, 3}, {90938, 34225, 21, 3}, {90960, 34225, 30, 3}, {90991, 34225, 21, 3},
+    {91013, 34225, 23, 3}, {91037, 34225, 13, 3}, {91051, 34225, 37, 3}, {91089, 34225, 23, 3}, {91136, 34225, 27, 3},
+    {91164, 34228, 19, 3}, {91184, 34228, 27, 3}, {91212, 34228, 19, 3}, {91232, 34228, 20, 3}, {91253, 34228, 20, 3},
+    {91274, 34228, 25, 3}, {91300, 34231, 17, 4}, {91318, 34231, 21, 4}, {91340, 34231, 10, 4}, {91351, 34231, 21, 4},
+    {91373, 34231, 30, 4}, {91404, 34231, 10, 4}, {91415, 34235, 14, 3}, {91430, 34235, 22, 3}, {91453, 34235, 21, 3},
+    {91475, 34235, 15, 3}, {91491, 34235, 27, 3}, {91519, 34235, 15, 3}, {91535, 34235, 20, 3}, {91556, 34238, 22, 3},
+    {91579, 34238, 31, 3}, {91611, 34238, 31, 3}, {91648, 34238, 24, 3}, {91673, 34238, 16, 3}, {91690, 34238, 14, 3},
+    {91705, 34238, 36, 3}, {91742, 34238, 24, 3}, {91767, 34238, 28, 3}, {91796, 34241, 17, 3}, {91814, 34241, 25, 3},
+    {91840, 34241, 24, 3}, {91865, 34241, 18, 3}, {91884, 34241, 30, 3}, {91915, 34241, 18, 3}, {91934, 34241, 23, 3},
+    {91958, 34244, 16, 3}, {91975, 34244, 25, 3}, {92001, 34244, 24, 3}, {92026, 34244, 18, 3}, {92045, 34244, 18, 3},
+    {92064, 34244, 19, 3}, {92084, 34244, 11, 3}, {92096, 34244, 18, 3}, {92115, 34244, 17, 3}, {92133, 34247, 22, 4},
+    {92160, 34247, 28, 4}, {92189, 34247, 11, 4}, {92201, 34247, 14, 4}, {92216, 34247, 22, 4}, {92239, 34251, 28, 3},
+    {92268, 34251, 37, 3}, {92306, 34251, 30, 3}, {92337, 34254, 22, 3}, {92360, 34254, 48, 3}, {92409, 34254, 41, 3},
+    {92451, 34257, 19, 3}, {92471, 34257, 46, 3}, {92518, 34257, 39, 3}, {92558, 34260, 24, 3}, {92583, 34260, 33, 3},
+    {92617, 34260, 26, 3}, {92644, 34263, 17, 3}, {92672, 34263, 25, 3}, {92698, 34263, 18, 3}, {92717, 34266, 11, 3},
+    {92729, 34266, 19, 3}, {92749, 34266, 18, 3}, {92768, 34266, 12, 3}, {92781, 34266, 12, 3}, {92794, 34266, 17, 3},
+    {92812, 34269, 19, 3}, {92832, 34269, 27, 3}, {92860, 34269, 20, 3}, {92881, 34272, 10, 3}, {92892, 34272, 18, 3},
+    {92911, 34275, 13, 3}, {92925, 34275, 37, 3}, {92963, 34275, 30, 3}, {92994, 34278, 22, 3}, {93017, 34278, 40, 3},
+    {93058, 34278, 33, 3}, {93092, 34281, 16, 3}, {93109, 34281, 25, 3}, {93135, 34281, 24, 3}, {93160, 34281, 18, 3},
+    {93184, 34281, 18, 3}, {93203, 34281, 22, 3}, {93226, 34284, 17, 3}, {93244, 34284, 19, 3}, {93264, 34284, 12, 3},
+    {93277, 34287, 10, 3}, {93288, 34287, 30, 3}, {93319, 34287, 23, 3}, {93343, 34290, 22, 3}, {93366, 34290, 36, 3},
+    {93403, 34290, 29, 3}, {93433, 34293, 14, 3}, {93448, 34293, 22, 3}, {93471, 34293, 15, 3}, {93487, 34296, 11, 3},
+    {93499, 34296, 19, 3}, {93519, 34296, 12, 3}, {93532, 34304, 26, 3}, {93559, 34304, 53, 3}, {93613, 34304, 46, 3},
+    {93660, 34307, 16, 3}, {93696, 34307, 26, 3}, {93723, 34307, 19, 3}, {93743, 34310, 9, 3}, {93753, 34310, 17, 3},
+    {93771, 34310, 10, 3}, {93782, 34313, 7, 3}, {93790, 34313, 34, 3}, {93825, 34313, 27, 3}, {93853, 34316, 27, 3},
+    {93881, 34316, 36, 3}, {93918, 34316, 29, 3}, {93948, 34319, 17, 3}, {93966, 34319, 25, 3}, {93992, 34319, 18, 3},
+    {94011, 34322, 21, 3}, {94033, 34322, 30, 3}, {94064, 34322, 23, 3}, {94088, 34325, 23, 3}, {94112, 34325, 31, 3},
+    {94144, 34325, 24, 3}, {94169, 34328, 12, 3}, {94208, 34328, 27, 3}, {94236, 34328, 20, 3}, {94257, 34331, 23, 3},
+    {94281, 34331, 42, 3}, {94324, 34331, 35, 3}, {94360, 34334, 21, 3}, {94382, 34334, 38, 3}, {94421, 34334, 31, 3},
+    {94453, 34337, 17, 3}, {94471, 34337, 34, 3}, {94506, 34337, 27, 3}, {94534, 34340, 21, 3}, {94556, 34340, 29, 3},
+    {94586, 34340, 22, 3}, {94609, 34343, 7, 9}, {94617, 34352, 19, 9}, {94637, 34361, 14, 9}, {94652, 34370, 13, 7},
+    {94666, 34377, 11, 9}, {94678, 34377, 11, 9}, {94690, 34377, 21, 9}, {94720, 34377, 10, 9}, {94731, 34386, 11, 9},
+    {94743, 34386, 11, 9}, {94755, 34386, 6, 9}, {94762, 34386, 14, 9}, {94777, 34386, 21, 9}, {94799, 34386, 7, 9},
+    {94807, 34386, 10, 9}, {94818, 34386, 13, 9}, {94832, 34395, 11, 9}, {94844, 34395, 11, 9}, {94856, 34395, 21, 9},
+    {94878, 34395, 10, 9}, {94889, 34404, 11, 9}, {94901, 34404, 11, 9}, {94913, 34404, 21, 9}, {94935, 34404, 10, 9},
+    {94946, 34413, 12, 9}, {94959, 34413, 11, 9}, {94971, 34413, 6, 9}, {94978, 34413, 20, 9}, {94999, 34413, 11, 9},
+    {95011, 34413, 16, 9}, {95028, 34413, 11, 9}, {95040, 34413, 14, 9}, {95055, 34422, 11, 9}, {95067, 34422, 7, 9},
+    {95075, 34422, 21, 9}, {95097, 34422, 10, 9}, {95108, 34422, 13, 9}, {95122, 34431, 11, 9}, {95134, 34431, 10, 9},
+    {95145, 34440, 18, 9}, {95164, 34440, 16, 9}, {95181, 34440, 15, 9}, {95197, 34440, 21, 9}, {95232, 34440, 14, 9},
+    {95247, 34440, 15, 9}, {95263, 34440, 18, 9}, {95282, 34449, 11, 9}, {95294, 34449, 11, 9}, {95306, 34449, 21, 9},
+    {95328, 34449, 10, 9}, {95339, 34458, 11, 9}, {95351, 34458, 11, 9}, {95363, 34458, 6, 9}, {95370, 34458, 14, 9},
+    {95385, 34458, 21, 9}, {95407, 34458, 7, 9}, {95415, 34458, 10, 9}, {95426, 34458, 13, 9}, {95440, 34467, 11, 9},
+    {95452, 34467, 11, 9}, {95464, 34467, 21, 9}, {95486, 34467, 10, 9}, {95497, 34476, 11, 9}, {95509, 34476, 11, 9},
+    {95521, 34476, 21, 9}, {95543, 34476, 10, 9}, {95554, 34485, 12, 9}, {95567, 34485, 11, 9}, {95579, 34485, 6, 9},
+    {95586, 34485, 20, 9}, {95607, 34485, 11, 9}, {95619, 34485, 16, 9}, {95636, 34485, 11, 9}, {95648, 34485, 14, 9},
+    {95663, 34494, 11, 9}, {95675, 34494, 7, 9}, {95683, 34494, 21, 9}, {95705, 34494, 10, 9}, {95716, 34494, 13, 9},
+    {95744, 34503, 11, 9}, {95756, 34503, 10, 9}, {95767, 34512, 18, 9}, {95786, 34512, 16, 9}, {95803, 34512, 15, 9},
+    {95819, 34512, 21, 9}, {95841, 34512, 14, 9}, {95856, 34512, 15, 9}, {95872, 34512, 18, 9}, {95891, 34521, 11, 9},
+    {95903, 34521, 11, 9}, {95915, 34521, 21, 9}, {95937, 34521, 10, 9}, {95948, 34530, 11, 9}, {95960, 34530, 11, 9},
+    {95972, 34530, 6, 9}, {95979, 34530, 14, 9}, {95994, 34530, 21, 9}, {96016, 34530, 7, 9}, {96024, 34530, 10, 9},
+    {96035, 34530, 13, 9}, {96049, 34539, 11, 9}, {96061, 34539, 11, 9}, {96073, 34539, 21, 9}, {96095, 34539, 10, 9},
+    {96106, 34548, 11, 9}, {96118, 34548, 11, 9}, {96130, 34548, 21, 9}, {96152, 34548, 10, 9}, {96163, 34557, 12, 9},
+    {96176, 34557, 11, 9}, {96188, 34557, 6, 9}, {96195, 34557, 20, 9}, {96216, 34557, 11, 9}, {96228, 34557, 16, 9},
+    {96256, 34557, 11, 9}, {96268, 34557, 14, 9}, {96283, 34566, 11, 9}, {96295, 34566, 7, 9}, {96303, 34566, 21, 9},
+    {96325, 34566, 10, 9}, {96336, 34566, 13, 9}, {96350, 34575, 11, 9}, {96362, 34575, 10, 9}, {96373, 34584, 18, 9},
+    {96392, 34584, 16, 9}, {96409, 34584, 15, 9}, {96425, 34584, 21, 9}, {96447, 34584, 14, 9}, {96462, 34584, 15, 9},
+    {96478, 34584, 18, 9}, {96497, 34593, 7, 9}, {96505, 34593, 6, 9}, {96512, 34593, 6, 9}, {96519, 34593, 8, 9},
+    {96528, 34593, 7, 9}, {96536, 34593, 9, 9}, {96546, 34602, 7, 9}, {96554, 34602, 6, 9}, {96561, 34602, 6, 9},
+    {96568, 34602, 8, 9}, {96577, 34602, 7, 9}, {96585, 34602, 9, 9}, {96595, 34611, 7, 9}, {96603, 34611, 6, 9},
+    {96610, 34611, 6, 9}, {96617, 34611, 8, 9}, {96626, 34611, 7, 9}, {96634, 34611, 9, 9}, {96644, 34620, 7, 9},
+    {96652, 34620, 6, 9}, {96659, 34620, 6, 9}, {96666, 34620, 8, 9}, {96675, 34620, 7, 9}, {96683, 34620, 9, 9},
+    {96693, 34629, 11, 9}, {96705, 34629, 10, 9}, {96716, 34629, 10, 9}, {96727, 34629, 12, 9}, {96740, 34629, 13, 9},
+    {96754, 34629, 10, 9}, {96768, 34629, 10, 9}, {96779, 34629, 13, 9}, {96793, 34638, 11, 9}, {96805, 34638, 10, 9},
+    {96816, 34638, 10, 9}, {96827, 34638, 12, 9}, {96840, 34638, 13, 9}, {96854, 34638, 10, 9}, {96865, 34638, 10, 9},
+    {96876, 34638, 13, 9}, {96890, 34647, 8, 9}, {96899, 34647, 8, 9}, {96908, 34647, 8, 9}, {96917, 34656, 8, 9},
+    {96926, 34656, 8, 9}, {96935, 34656, 8, 9}, {96944, 34665, 8, 9}, {96953, 34665, 8, 9}, {96962, 34665, 8, 9},
+    {96971, 34674, 8, 9}, {96980, 34674, 8, 9}, {96989, 34674, 8, 9}, {96998, 34683, 8, 9}, {97007, 34683, 8, 9},
+    {97016, 34683, 9, 9}, {97026, 34683, 12, 9}, {97039, 34683, 9, 9}, {97049, 34692, 8, 9}, {97058, 34692, 8, 9},
+    {97067, 34692, 9, 9}, {97077, 34692, 12, 9}, {97090, 34692, 9, 9}, {97100, 34701, 13, 9}, {97114, 34701, 12, 9},
+    {97127, 34710, 13, 9}, {97141, 34710, 12, 9}, {97154, 34719, 13, 9}, {97168, 34719, 12, 9}, {97181, 34728, 13, 9},
+    {97195, 34728, 12, 9}, {97208, 34737, 12, 9}, {97221, 34737, 12, 9}, {97234, 34746, 15, 9}, {97250, 34746, 12, 9},
+    {97263, 34746, 12, 9}, {97280, 34755, 7, 9}, {97288, 34755, 7, 9}, {97296, 34755, 8, 9}, {97305, 34764, 7, 9},
+    {97313, 34764, 7, 9}, {97321, 34764, 8, 9}, {97330, 34773, 15, 9}, {97346, 34773, 12, 9}, {97359, 34773, 10, 9},
+    {97370, 34773, 18, 9}, {97389, 34773, 13, 9}, {97403, 34773, 26, 9}, {97430, 34773, 10, 9}, {97441, 34773, 18, 9},
+    {97460, 34782, 15, 9}, {97476, 34782, 12, 9}, {97489, 34782, 10, 9}, {97500, 34782, 18, 9}, {97519, 34782, 16, 9},
+    {97536, 34782, 13, 9}, {97550, 34782, 26, 9}, {97577, 34782, 13, 9}, {97591, 34782, 10, 9}, {97602, 34782, 18, 9},
+    {97621, 34791, 18, 9}, {97640, 34791, 15, 9}, {97656, 34791, 12, 9}, {97669, 34791, 10, 9}, {97680, 34791, 13, 9},
+    {97694, 34800, 18, 9}, {97713, 34800, 15, 9}, {97729, 34800, 12, 9}, {97742, 34800, 10, 9}, {97753, 34800, 13, 9},
+    {97767, 34816, 20, 9}, {97792, 34816, 17, 9}, {97810, 34816, 12, 9}, {97823, 34816, 15, 9}, {97839, 34825, 20, 9},
+    {97860, 34825, 17, 9}, {97878, 34825, 12, 9}, {97891, 34825, 15, 9}, {97907, 34834, 20, 9}, {97928, 34834, 17, 9},
+    {97946, 34834, 12, 9}, {97959, 34834, 15, 9}, {97975, 34843, 20, 9}, {97996, 34843, 17, 9}, {98014, 34843, 12, 9},
+    {98027, 34843, 15, 9}, {98043, 34852, 19, 9}, {98063, 34852, 14, 9}, {98078, 34852, 17, 9}, {98096, 34852, 14, 9},
+    {98111, 34861, 19, 9}, {98131, 34861, 14, 9}, {98146, 34861, 17, 9}, {98164, 34861, 14, 9}, {98179, 34870, 19, 9},
+    {98199, 34870, 14, 9}, {98214, 34870, 17, 9}, {98232, 34870, 14, 9}, {98247, 34879, 19, 9}, {98267, 34879, 14, 9},
+    {98282, 34879, 17, 9}, {98304, 34879, 14, 9}, {98319, 34888, 34, 9}, {98354, 34888, 12, 9}, {98367, 34888, 15, 9},
+    {98383, 34897, 34, 9}, {98418, 34897, 12, 9}, {98431, 34897, 15, 9}, {98447, 34906, 34, 9}, {98482, 34906, 12, 9},
+    {98495, 34906, 15, 9}, {98511, 34915, 34, 9}, {98546, 34915, 12, 9}, {98559, 34915, 15, 9}, {98575, 34924, 9, 9},
+    {98585, 34924, 7, 9}, {98593, 34933, 9, 9}, {98603, 34933, 7, 9}, {98611, 34942, 9, 9}, {98621, 34942, 7, 9},
+    {98629, 34951, 17, 9}, {98647, 34960, 17, 9}, {98665, 34969, 17, 9}, {98683, 34978, 17, 9}, {98701, 34987, 17, 9},
+    {98719, 34996, 17, 9}, {98737, 35005, 18, 9}, {98756, 35014, 18, 9}, {98775, 35023, 18, 9}, {98794, 35032, 18, 9},
+    {98816, 35041, 18, 9}, {98835, 35050, 18, 9}, {98854, 35059, 26, 9}, {98881, 35068, 26, 9}, {98908, 35077, 26, 9},
+    {98935, 35086, 29, 9}, {98965, 35095, 29, 9}, {98995, 35104, 29, 9}, {99025, 35113, 29, 9}, {99055, 35122, 29, 9},
+    {99085, 35131, 29, 9}, {99115, 35140, 32, 9}, {99148, 35149, 32, 9}, {99181, 35158, 32, 9}, {99214, 35167, 32, 9},
+    {99247, 35176, 32, 9}, {99280, 35185, 32, 9}, {99313, 35194, 10, 9}, {99328, 35194, 8, 9}, {99337, 35203, 10, 9},
+    {99348, 35203, 8, 9}, {99357, 35212, 11, 9}, {99369, 35212, 9, 9}, {99379, 35221, 19, 8}, {99399, 35229, 23, 8},
+    {99423, 35237, 25, 8}, {99449, 35245, 16, 13}, {99466, 35258, 16, 13}, {99483, 35271, 12, 13},
+    {99496, 35284, 22, 13}, {99519, 35297, 14, 13}, {99534, 35310, 16, 13}, {99551, 35328, 18, 13},
+    {99570, 35341, 18, 13}, {99589, 35354, 14, 13}, {99604, 35367, 13, 13}, {99618, 35380, 13, 13},
+    {99632, 35393, 13, 13}, {99646, 35406, 14, 13}, {99661, 35419, 22, 13}, {99684, 35432, 18, 13},
+    {99703, 35445, 13, 13}, {99717, 35458, 13, 13}, {99731, 35471, 13, 13}, {99745, 35484, 18, 13},
+    {99764, 35497, 15, 13}, {99780, 35510, 19, 13}, {99800, 35523, 21, 13}, {99840, 35536, 21, 13},
+    {99862, 35549, 15, 13}, {99878, 35562, 24, 13}, {99903, 35575, 11, 13}, {99915, 35588, 22, 13},
+    {99938, 35601, 24, 13}, {99963, 35614, 13, 13}, {99977, 35627, 16, 13}, {99994, 35640, 7, 13},
+    {100002, 35653, 19, 13}, {100022, 35666, 21, 13}, {100044, 35679, 17, 13}, {100062, 35692, 19, 13},
+    {100082, 35705, 12, 13}, {100095, 35718, 19, 13}, {100115, 35731, 20, 13}, {100136, 35744, 12, 13},
+    {100149, 35757, 17, 13}, {100167, 35770, 10, 13}, {100178, 35783, 13, 13}, {100192, 35796, 13, 13},
+    {100206, 35809, 15, 13}, {100222, 35822, 12, 13}, {100235, 35840, 14, 13}, {100250, 35853, 13, 13},
+    {100264, 35866, 12, 13}, {100277, 35879, 18, 13}, {100296, 35892, 15, 13}, {100312, 35905, 8, 7},
+    {100352, 35905, 29, 7}, {100382, 35912, 9, 8}, {100392, 35912, 30, 8}, {100423, 35920, 10, 9},
+    {100434, 35920, 18, 9}, {100453, 35920, 25, 9}, {100479, 35929, 9, 9}, {100489, 35929, 17, 9},
+    {100507, 35938, 15, 9}, {100523, 35938, 23, 9}, {100547, 35947, 17, 9}, {100565, 35947, 26, 9},
+    {100592, 35956, 12, 9}, {100605, 35956, 20, 9}, {100626, 35965, 13, 9}, {100640, 35965, 22, 9},
+    {100663, 35974, 15, 9}, {100679, 35974, 24, 9}, {100704, 35983, 9, 9}, {100714, 35983, 16, 9},
+    {100731, 35992, 10, 8}, {100742, 35992, 18, 8}, {100761, 36000, 14, 9}, {100776, 36000, 29, 9},
+    {100806, 36009, 12, 10}, {100819, 36019, 8, 10}, {100828, 36029, 10, 10}, {100839, 36039, 7, 10},
+    {100847, 36049, 6, 10}, {100864, 36059, 12, 10}, {100877, 36069, 11, 10}, {100889, 36079, 16, 10},
+    {100906, 36089, 8, 10}, {100915, 36099, 10, 10}, {100926, 36109, 14, 10}, {100941, 36119, 18, 10},
+    {100960, 36129, 10, 10}, {100971, 36139, 9, 11}, {100981, 36150, 10, 11}, {100992, 36161, 14, 10},
+    {101007, 36171, 11, 10}, {101019, 36181, 22, 11}, {101042, 36192, 24, 10}, {101067, 36202, 28, 10},
+    {101096, 36212, 31, 10}, {101128, 36222, 32, 10}, {101161, 36232, 40, 10}, {101202, 36242, 23, 10},
+    {101226, 36252, 24, 10}, {101251, 36262, 29, 10}, {101281, 36272, 28, 10}, {101310, 36282, 24, 10},
+    {101335, 36292, 19, 12}, {101355, 36304, 5, 9}, {101376, 36304, 28, 9}, {101405, 36304, 25, 9},
+    {101431, 36304, 36, 9}, {101468, 36313, 19, 7}, {101488, 36313, 19, 7}, {101508, 36320, 26, 12},
+    {101535, 36320, 26, 12}, {101562, 36320, 17, 12}, {101580, 36332, 27, 1}, {101608, 36332, 27, 1},
+    {101636, 36333, 6, 2}, {101643, 36333, 30, 2}, {101674, 36335, 9, 3}, {101684, 36335, 13, 3},
+    {101698, 36338, 13, 4}, {101712, 36342, 14, 4}, {101727, 36352, 13, 4}, {101741, 36356, 12, 4},
+    {101754, 36360, 8, 4}, {101763, 36364, 12, 4}, {101776, 36368, 20, 4}, {101797, 36372, 14, 4},
+    {101812, 36376, 20, 4}, {101833, 36380, 23, 4}, {101857, 36384, 23, 4}, {101888, 36388, 17, 4},
+    {101906, 36392, 18, 4}, {101925, 36396, 12, 4}, {101938, 36400, 14, 4}, {101953, 36404, 16, 4},
+    {101970, 36408, 16, 4}, {101987, 36412, 17, 4}, {102005, 36416, 18, 4}, {102024, 36420, 18, 4},
+    {102043, 36424, 17, 4}, {102061, 36428, 20, 4}, {102082, 36432, 19, 4}, {102102, 36436, 20, 4},
+    {102123, 36440, 19, 4}, {102143, 36444, 15, 4}, {102159, 36448, 16, 4}, {102176, 36452, 16, 4},
+    {102193, 36456, 18, 4}, {102212, 36460, 19, 4}, {102232, 36464, 19, 4}, {102252, 36468, 16, 4},
+    {102269, 36472, 17, 4}, {102287, 36476, 17, 4}, {102305, 36480, 19, 4}, {102325, 36484, 20, 4},
+    {102346, 36488, 20, 4}, {102367, 36492, 18, 4}, {102400, 36496, 17, 4}, {102418, 36500, 23, 4},
+    {102442, 36504, 23, 4}, {102466, 36508, 21, 4}, {102488, 36512, 21, 4}, {102510, 36516, 19, 4},
+    {102530, 36520, 17, 4}, {102548, 36524, 16, 4}, {102565, 36528, 17, 4}, {102583, 36532, 19, 4},
+    {102603, 36536, 14, 4}, {102618, 36540, 21, 4}, {102640, 36544, 19, 4}, {102660, 36548, 16, 4},
+    {102677, 36552, 16, 4}, {102694, 36556, 17, 4}, {102712, 36560, 18, 4}, {102731, 36564, 17, 4},
+    {102749, 36568, 18, 4}, {102768, 36572, 23, 4}, {102792, 36576, 19, 4}, {102812, 36580, 19, 4},
+    {102832, 36584, 20, 4}, {102853, 36588, 15, 4}, {102869, 36592, 16, 4}, {102886, 36596, 15, 4},
+    {102912, 36600, 18, 4}, {102931, 36604, 19, 4}, {102951, 36608, 18, 4}, {102970, 36612, 16, 4},
+    {102987, 36616, 17, 4}, {103005, 36620, 16, 4}, {103022, 36624, 19, 4}, {103042, 36628, 20, 4},
+    {103063, 36632, 19, 4}, {103083, 36636, 22, 4}, {103106, 36640, 22, 4}, {103129, 36644, 19, 4},
+    {103149, 36648, 16, 4}, {103166, 36652, 17, 4}, {103184, 36656, 16, 4}, {103201, 36660, 24, 4},
+    {103226, 36664, 27, 4}, {103254, 36668, 24, 4}, {103279, 36672, 10, 3}, {103290, 36672, 18, 3},
+    {103309, 36675, 15, 4}, {103325, 36675, 18, 4}, {103344, 36679, 13, 4}, {103358, 36679, 23, 4},
+    {103382, 36683, 16, 4}, {103399, 36687, 13, 4}, {103424, 36691, 13, 4}, {103438, 36695, 9, 4},
+    {103448, 36695, 23, 4}, {103472, 36699, 8, 3}, {103481, 36702, 12, 4}, {103494, 36706, 16, 5},
+    {103511, 36711, 13, 5}, {103525, 36716, 15, 4}, {103541, 36716, 28, 4}, {103570, 36720, 17, 4},
+    {103588, 36724, 17, 5}, {103606, 36729, 21, 5}, {103628, 36734, 14, 4}, {103643, 36734, 19, 4},
+    {103663, 36738, 18, 5}, {103682, 36743, 19, 6}, {103702, 36743, 19, 6}, {103722, 36749, 17, 5},
+    {103740, 36754, 13, 6}, {103754, 36754, 17, 6}, {103772, 36760, 18, 6}, {103791, 36760, 17, 6},
+    {103809, 36766, 18, 5}, {103828, 36771, 17, 6}, {103846, 36771, 22, 6}, {103869, 36777, 17, 6},
+    {103887, 36777, 23, 6}, {103911, 36783, 10, 3}, {103936, 36786, 15, 4}, {103952, 36790, 11, 3},
+    {103964, 36790, 22, 3}, {103987, 36793, 18, 4}, {104006, 36797, 16, 4}, {104023, 36801, 17, 4},
+    {104041, 36805, 21, 4}, {104063, 36809, 17, 4}, {104081, 36813, 14, 4}, {104096, 36817, 16, 4},
+    {104113, 36821, 24, 4}, {104138, 36825, 23, 4}, {104162, 36829, 18, 4}, {104181, 36833, 17, 4},
+    {104199, 36837, 26, 4}, {104226, 36841, 9, 3}, {104236, 36844, 18, 4}, {104255, 36848, 14, 4},
+    {104270, 36852, 20, 4}, {104291, 36856, 16, 4}, {104308, 36864, 25, 4}, {104334, 36868, 13, 4},
+    {104348, 36872, 15, 5}, {104364, 36877, 3, 2}, {104368, 36879, 7, 3}, {104376, 36882, 22, 5},
+    {104399, 36887, 22, 5}, {104422, 36892, 22, 5}, {104448, 36897, 22, 5}, {104471, 36902, 22, 5},
+    {104494, 36907, 22, 5}, {104517, 36912, 22, 5}, {104540, 36917, 22, 5}, {104563, 36922, 23, 5},
+    {104587, 36927, 23, 5}, {104611, 36932, 23, 5}, {104635, 36937, 3, 3}, {104639, 36937, 23, 3},
+    {104663, 36940, 34, 4}, {104698, 36944, 16, 5}, {104715, 36944, 16, 5}, {104732, 36949, 9, 5},
+    {104742, 36949, 9, 5}, {104752, 36954, 11, 5}, {104764, 36954, 11, 5}, {104776, 36959, 21, 5},
+    {104798, 36964, 14, 5}, {104813, 36969, 16, 5}, {104830, 36974, 18, 5}, {104849, 36979, 22, 5},
+    {104872, 36984, 19, 5}, {104892, 36989, 22, 5}, {104915, 36994, 19, 5}, {104935, 36999, 12, 5},
+    {104960, 37004, 17, 5}, {104978, 37004, 17, 5}, {104996, 37009, 26, 5}, {105023, 37009, 26, 5},
+    {105050, 37014, 23, 5}, {105074, 37014, 23, 5}, {105098, 37019, 23, 5}, {105122, 37024, 33, 5},
+    {105156, 37024, 28, 5}, {105185, 37029, 24, 5}, {105210, 37029, 19, 5}, {105230, 37034, 35, 5},
+    {105266, 37034, 34, 5}, {105301, 37039, 31, 5}, {105333, 37039, 30, 5}, {105364, 37044, 27, 5},
+    {105392, 37044, 25, 5}, {105418, 37049, 33, 4}, {105452, 37053, 16, 5}, {105472, 37058, 34, 4},
+    {105507, 37062, 18, 5}, {105526, 37067, 17, 4}, {105544, 37067, 40, 4}, {105585, 37071, 10, 5},
+    {105596, 37071, 30, 5}, {105627, 37076, 30, 6}, {105658, 37076, 32, 6}, {105691, 37082, 29, 6},
+    {105721, 37082, 28, 6}, {105750, 37088, 24, 6}, {105775, 37088, 30, 6}, {105806, 37094, 20, 6},
+    {105827, 37094, 18, 6}, {105846, 37100, 22, 6}, {105869, 37100, 20, 6}, {105890, 37106, 21, 6},
+    {105912, 37106, 26, 6}, {105939, 37112, 28, 6}, {105984, 37112, 26, 6}, {106011, 37118, 31, 7},
+    {106043, 37118, 32, 7}, {106076, 37125, 31, 7}, {106108, 37125, 32, 7}, {106141, 37132, 31, 7},
+    {106173, 37132, 32, 7}, {106206, 37139, 27, 7}, {106234, 37139, 36, 7}, {106271, 37146, 25, 6},
+    {106297, 37146, 23, 6}, {106321, 37152, 46, 4}, {106368, 37156, 20, 5}, {106389, 37161, 18, 5},
+    {106408, 37166, 36, 5}, {106445, 37171, 40, 5}, {106496, 37176, 41, 5}, {106538, 37181, 31, 5},
+    {106570, 37186, 36, 4}, {106607, 37190, 27, 5}, {106635, 37195, 35, 5}, {106671, 37195, 30, 5},
+    {106702, 37195, 20, 5}, {106723, 37200, 36, 5}, {106760, 37205, 29, 5}, {106790, 37205, 24, 5},
+    {106815, 37210, 40, 5}, {106856, 37210, 36, 5}, {106893, 37215, 34, 5}, {106928, 37215, 30, 5},
+    {106959, 37220, 45, 5}, {107008, 37220, 41, 5}, {107050, 37225, 39, 5}, {107090, 37225, 35, 5},
+    {107126, 37230, 6, 4}, {107133, 37230, 44, 4}, {107178, 37234, 35, 5}, {107214, 37234, 43, 5},
+    {107258, 37239, 11, 4}, {107270, 37239, 39, 4}, {107310, 37243, 23, 5}, {107334, 37243, 20, 5},
+    {107355, 37248, 19, 5}, {107375, 37248, 16, 5}, {107392, 37253, 24, 5}, {107417, 37253, 21, 5},
+    {107439, 37258, 12, 4}, {107452, 37258, 32, 4}, {107485, 37262, 27, 5}, {107520, 37262, 19, 5},
+    {107540, 37267, 31, 6}, {107572, 37267, 31, 6}, {107604, 37273, 32, 6}, {107637, 37273, 40, 6},
+    {107678, 37279, 32, 6}, {107711, 37279, 42, 6}, {107754, 37285, 32, 6}, {107787, 37285, 20, 6},
+    {107808, 37291, 32, 6}, {107841, 37291, 20, 6}, {107862, 37297, 10, 4}, {107873, 37297, 30, 4},
+    {107904, 37301, 9, 5}, {107914, 37301, 21, 5}, {107936, 37306, 17, 6}, {107954, 37306, 13, 6},
+    {107968, 37312, 31, 6}, {108000, 37312, 28, 6}, {108032, 37318, 24, 6}, {108057, 37318, 21, 6},
+    {108079, 37324, 24, 6}, {108104, 37324, 21, 6}, {108126, 37330, 32, 6}, {108159, 37330, 31, 6},
+    {108191, 37336, 19, 6}, {108211, 37336, 16, 6}, {108228, 37342, 22, 6}, {108251, 37342, 20, 6},
+    {108272, 37348, 20, 6}, {108293, 37348, 17, 6}, {108311, 37354, 13, 6}, {108325, 37354, 23, 6},
+    {108349, 37360, 13, 6}, {108363, 37360, 31, 6}, {108395, 37366, 38, 6}, {108434, 37366, 36, 6},
+    {108471, 37376, 47, 6}, {108544, 37376, 46, 6}, {108591, 37382, 42, 6}, {108634, 37382, 41, 6},
+    {108676, 37388, 38, 6}, {108715, 37388, 36, 6}, {108752, 37394, 13, 6}, {108766, 37394, 35, 6},
+    {108802, 37400, 16, 6}, {108819, 37400, 22, 6}, {108842, 37406, 13, 6}, {108856, 37406, 33, 6},
+    {108890, 37412, 20, 6}, {108911, 37412, 16, 6}, {108928, 37418, 19, 6}, {108948, 37418, 15, 6},
+    {108964, 37424, 23, 6}, {108988, 37424, 36, 6}, {109025, 37430, 19, 6}, {109056, 37430, 16, 6},
+    {109073, 37436, 15, 5}, {109089, 37436, 20, 5}, {109110, 37441, 31, 6}, {109142, 37441, 36, 6},
+    {109179, 37447, 24, 6}, {109204, 37447, 29, 6}, {109234, 37453, 26, 6}, {109261, 37453, 31, 6},
+    {109293, 37459, 25, 6}, {109319, 37459, 30, 6}, {109350, 37465, 41, 6}, {109392, 37465, 47, 6},
+    {109440, 37471, 28, 6}, {109469, 37471, 33, 6}, {109503, 37477, 25, 6}, {109529, 37477, 30, 6},
+    {109568, 37483, 32, 6}, {109601, 37483, 37, 6}, {109639, 37489, 25, 6}, {109665, 37489, 30, 6},
+    {109696, 37495, 26, 6}, {109723, 37495, 31, 6}, {109755, 37501, 26, 6}, {109782, 37501, 31, 6},
+    {109814, 37507, 28, 6}, {109843, 37507, 33, 6}, {109877, 37513, 28, 6}, {109906, 37513, 33, 6},
+    {109940, 37519, 36, 6}, {109977, 37519, 42, 6}, {110020, 37525, 24, 6}, {110045, 37525, 29, 6},
+    {110080, 37531, 25, 6}, {110106, 37531, 30, 6}, {110137, 37537, 28, 6}, {110166, 37537, 33, 6},
+    {110200, 37543, 26, 6}, {110227, 37543, 31, 6}, {110259, 37549, 26, 6}, {110286, 37549, 31, 6},
+    {110318, 37555, 25, 6}, {110344, 37555, 30, 6}, {110375, 37561, 30, 6}, {110406, 37561, 35, 6},
+    {110442, 37567, 35, 6}, {110478, 37567, 41, 6}, {110520, 37573, 36, 6}, {110592, 37573, 42, 6},
+    {110635, 37579, 29, 6}, {110665, 37579, 34, 6}, {110700, 37585, 25, 6}, {110726, 37585, 30, 6},
+    {110757, 37591, 33, 6}, {110791, 37591, 40, 6}, {110832, 37597, 20, 6}, {110853, 37597, 25, 6},
+    {110879, 37603, 18, 6}, {110898, 37603, 23, 6}, {110922, 37609, 21, 6}, {110944, 37609, 26, 6},
+    {110971, 37615, 30, 6}, {111002, 37615, 35, 6}, {111038, 37621, 14, 6}, {111053, 37621, 40, 6},
+    {111104, 37627, 39, 6}, {111144, 37627, 45, 6}, {111190, 37633, 39, 6}, {111230, 37633, 45, 6},
+    {111276, 37639, 48, 6}, {111325, 37639, 55, 6}, {111381, 37645, 43, 6}, {111425, 37645, 50, 6},
+    {111476, 37651, 14, 6}, {111491, 37651, 43, 6}, {111535, 37657, 20, 6}, {111556, 37657, 25, 6},
+    {111582, 37663, 15, 5}, {111616, 37663, 20, 5}, {111637, 37668, 16, 3}, {111654, 37671, 20, 4},
+    {111675, 37675, 19, 5}, {111695, 37675, 13, 5}, {111709, 37675, 19, 5}, {111729, 37680, 21, 5},
+    {111751, 37685, 16, 6}, {111768, 37685, 17, 6}, {111786, 37691, 22, 6}, {111809, 37691, 23, 6},
+    {111833, 37697, 20, 6}, {111854, 37697, 21, 6}, {111876, 37703, 31, 5}, {111908, 37703, 34, 5},
+    {111943, 37708, 25, 5}, {111969, 37713, 12, 6}, {111982, 37719, 14, 5}, {111997, 37724, 17, 6},
+    {112015, 37730, 28, 6}, {112044, 37736, 17, 6}, {112062, 37742, 26, 6}, {112089, 37748, 25, 5},
+    {112128, 37753, 16, 5}, {112145, 37758, 22, 4}, {112168, 37762, 28, 5}, {112197, 37762, 26, 5},
+    {112224, 37762, 29, 5}, {112254, 37767, 19, 4}, {112274, 37771, 26, 4}, {112301, 37775, 0, 0},
 };
 
 /* The name of the entry at an index, and its octets. An index must be below CONST_OID_COMMON_NAMES_COUNT, at which
@@ -3166,646 +4265,855 @@ CONST_OID_NODISCARD CONST_OID_INLINE const_oid_octets const_oid_common_octets(si
 /* The indexes of the entries by a hash of their names, each in the first slot that is free from its own on. Those with
  * one name are in the order of the table, and CONST_OID_COMMON_NAMES_COUNT is in the slots that are free, as is the last. */
 CONST_OID_TABLE const uint16_t const_oid_common_names_by_hash[] = {
-    4502, 1262, 4502, 4502, 1315, 4502, 1553, 4502, 473, 4502, 4140, 4502, 3491, 4502, 4502, 2772, 4502, 1591, 2239,
-    119, 3342, 1712, 120, 4240, 4250, 4416, 2197, 3533, 2226, 2104, 1759, 3256, 3385, 3386, 328, 126, 2299, 2582, 4193,
-    2748, 550, 4502, 4502, 4502, 4502, 226, 4194, 2425, 4502, 2478, 4039, 4315, 1115, 4163, 3049, 3519, 2246, 2710,
-    2355, 4023, 4502, 4502, 4502, 4502, 1254, 4502, 1699, 4029, 2156, 4201, 758, 919, 1426, 1450, 734, 4502, 2051, 1479,
-    54, 1884, 1908, 3399, 368, 2891, 2988, 3853, 3854, 3972, 563, 4502, 4502, 561, 3469, 4502, 4502, 3148, 2539, 1142,
-    4502, 4502, 849, 4502, 1152, 4502, 986, 1266, 4175, 3404, 4006, 2241, 3641, 1253, 3304, 1892, 4322, 4346, 1073,
-    1478, 3724, 2337, 3514, 2383, 2424, 3584, 1107, 1003, 3147, 1407, 2928, 533, 4502, 3274, 4502, 4502, 4502, 3710,
-    2292, 1160, 1893, 4502, 2021, 3679, 2315, 4502, 4502, 4502, 3542, 1556, 2060, 3664, 3141, 2560, 568, 4484, 3990,
-    297, 2330, 1920, 1973, 4373, 1143, 2102, 2041, 202, 4403, 752, 1282, 434, 4381, 2675, 2413, 2695, 1915, 1292, 3247,
-    536, 1986, 3848, 4019, 1281, 696, 4291, 2972, 1924, 4502, 1735, 1993, 3070, 2812, 829, 2205, 3923, 2894, 1055, 2432,
-    2025, 1583, 3136, 1956, 1325, 491, 3411, 730, 4502, 4502, 3477, 117, 1639, 4502, 4502, 4290, 4502, 2577, 4502, 206,
-    4502, 4502, 1863, 4502, 4400, 4502, 4502, 4502, 2267, 1269, 3144, 351, 1048, 4502, 3537, 1092, 3574, 499, 3680,
-    2759, 3831, 3832, 1380, 671, 1090, 1509, 1741, 2122, 4162, 4109, 43, 1866, 1340, 1649, 1261, 3004, 25, 26, 4316,
-    2861, 1009, 1740, 467, 3967, 619, 4502, 4502, 4502, 4502, 1707, 2702, 2177, 3517, 1191, 4124, 1270, 3179, 3325,
-    3966, 2910, 3426, 2664, 2348, 545, 4502, 3320, 4502, 4502, 4165, 2455, 859, 2368, 2000, 2782, 2259, 1176, 4299,
-    4038, 4407, 1485, 3690, 2338, 1037, 1743, 1814, 4375, 4460, 441, 2757, 2926, 1894, 2713, 3293, 4502, 4502, 4502,
-    4502, 1353, 1021, 2923, 2061, 1405, 710, 165, 166, 984, 3021, 1837, 3913, 1164, 780, 4502, 3987, 1397, 169, 170,
-    2922, 2764, 1826, 2677, 3490, 4502, 1447, 334, 2523, 2312, 4502, 2989, 386, 424, 978, 1207, 4502, 4502, 603, 4502,
-    1693, 4502, 4502, 4502, 462, 4502, 2665, 2896, 3883, 254, 4502, 1011, 800, 4502, 4018, 4502, 255, 4502, 4502, 4502,
-    209, 4502, 3671, 1833, 894, 1676, 1635, 3892, 367, 4502, 4329, 4502, 1921, 4468, 262, 266, 497, 216, 1497, 615,
-    2711, 4502, 2106, 4502, 4502, 4502, 3480, 223, 2581, 4502, 277, 3512, 4502, 4502, 4502, 4502, 902, 4502, 4220, 4502,
-    744, 3828, 518, 3644, 1532, 728, 4502, 1848, 2199, 4502, 4272, 4502, 437, 4115, 2128, 112, 1365, 113, 2739, 1383,
-    1007, 1827, 1934, 4325, 2180, 1351, 1374, 51, 1219, 3269, 3806, 4502, 1941, 430, 382, 4502, 4502, 133, 4374, 4502,
-    4502, 1233, 1339, 443, 4502, 3744, 714, 274, 3919, 4502, 1681, 624, 751, 1631, 3288, 1581, 2049, 4502, 4059, 2756,
-    263, 2028, 1988, 59, 13, 14, 2490, 3311, 3829, 4502, 4502, 1006, 4502, 1360, 4502, 490, 1804, 270, 1349, 2963, 2848,
-    4427, 1645, 3000, 4502, 4502, 1182, 789, 815, 2524, 4502, 4502, 4502, 156, 157, 3706, 2474, 4502, 4502, 4502, 4502,
-    540, 531, 2322, 512, 3593, 4502, 4502, 4502, 4502, 4502, 15, 16, 3019, 2519, 4502, 1490, 614, 3427, 1566, 3954,
-    2456, 4502, 4502, 4502, 2821, 2200, 4069, 4502, 4502, 4502, 3027, 472, 4502, 4502, 4441, 3107, 4502, 245, 4502,
-    4502, 4502, 1817, 2656, 4354, 4360, 1812, 1567, 2934, 1395, 2138, 1562, 2001, 3402, 361, 308, 2300, 834, 438, 4071,
-    1135, 1655, 555, 1554, 3273, 3298, 3886, 1422, 1989, 4502, 4502, 4502, 2832, 4502, 650, 1355, 4502, 3779, 521, 3040,
-    2870, 4496, 1301, 4502, 4502, 4502, 4502, 4502, 562, 2953, 4181, 4502, 4502, 360, 2040, 1578, 2732, 1133, 1423,
-    1775, 1825, 2925, 3725, 4502, 4502, 989, 4502, 3689, 4502, 4502, 4502, 3937, 2518, 4502, 3181, 659, 1284, 934, 4502,
-    878, 4502, 1911, 4502, 4502, 3988, 4244, 514, 2367, 324, 1023, 344, 4364, 303, 1098, 2779, 3776, 4502, 4502, 3458,
-    819, 1031, 1467, 4502, 2357, 2644, 4502, 1054, 4502, 4502, 4502, 4502, 906, 3441, 4502, 3083, 1214, 610, 4502, 4502,
-    709, 1865, 631, 4502, 4502, 1240, 2192, 2193, 1766, 4502, 2783, 2724, 4502, 2480, 4502, 2070, 335, 4502, 3140, 4502,
-    4466, 1521, 3538, 4377, 1220, 2913, 446, 607, 915, 3573, 3569, 908, 3713, 4502, 4502, 4502, 475, 2637, 929, 3757,
-    2302, 3421, 4502, 4502, 4502, 4502, 1854, 1819, 594, 321, 1882, 2708, 3907, 4502, 4502, 1409, 348, 2284, 44, 3674,
-    1276, 1059, 4502, 2285, 4502, 4502, 4502, 4467, 3836, 544, 1381, 3873, 1726, 3874, 690, 4208, 1622, 3459, 3229,
-    3370, 2258, 1937, 1498, 213, 106, 107, 2944, 3753, 376, 2574, 4456, 733, 2143, 229, 2214, 966, 907, 2073, 1955,
-    3361, 2755, 3041, 2765, 1033, 1855, 1669, 3940, 3439, 4502, 3022, 294, 3953, 1338, 511, 3235, 1913, 3015, 4034, 891,
-    892, 654, 2977, 3452, 244, 2776, 3048, 3621, 3611, 1872, 560, 2084, 1592, 2965, 1883, 862, 239, 529, 3901, 3902,
-    332, 2786, 56, 1890, 3206, 4502, 4502, 4502, 1482, 4502, 1398, 4502, 4186, 2540, 2865, 1372, 1074, 4502, 3683, 4502,
-    4502, 4502, 4502, 3698, 4502, 4502, 1300, 4502, 4502, 970, 4502, 1600, 3620, 4502, 4502, 1969, 635, 2509, 4502,
-    2668, 2992, 1439, 3314, 2159, 1287, 3240, 1375, 3652, 236, 501, 4502, 1974, 201, 782, 4502, 3163, 3948, 2018, 4072,
-    3807, 1900, 3415, 4116, 2371, 1492, 4144, 3903, 1966, 1935, 1981, 1044, 1082, 3356, 3357, 1791, 2405, 3949, 4502,
-    452, 4502, 31, 32, 1100, 4502, 4502, 4502, 546, 4502, 4502, 1822, 2069, 1410, 4502, 2962, 3372, 250, 3242, 222, 256,
-    2515, 579, 2758, 2872, 3178, 1525, 199, 3237, 355, 2678, 4283, 3173, 4366, 4387, 661, 716, 852, 2087, 1408, 1701,
-    92, 3430, 433, 93, 195, 1076, 2101, 2186, 1606, 4473, 1844, 1303, 821, 4253, 1264, 3691, 3909, 2310, 3577, 2417,
-    2746, 4110, 4191, 735, 4502, 326, 4502, 3292, 4502, 3946, 4502, 399, 4502, 3797, 2109, 1313, 4502, 4502, 1396, 1547,
-    1575, 1939, 320, 2167, 3466, 1018, 2969, 4041, 1043, 4502, 2452, 899, 258, 4502, 1469, 2123, 831, 3619, 596, 1200,
-    3448, 3335, 1063, 2750, 4139, 4502, 4502, 1318, 4502, 1559, 2651, 3312, 19, 20, 3095, 4502, 2864, 3449, 4499, 1808,
-    2301, 645, 4183, 2941, 4502, 4502, 4502, 4502, 686, 2802, 4502, 541, 2488, 4501, 1029, 2339, 3711, 2859, 3739, 1227,
-    674, 319, 4148, 210, 548, 4502, 2017, 1881, 4502, 2876, 2313, 4502, 1633, 3503, 4502, 4502, 4502, 4502, 4502, 1201,
-    4502, 3225, 1212, 4276, 1719, 3905, 4502, 4502, 2398, 4502, 3397, 3588, 721, 699, 4497, 987, 2823, 3346, 3037, 1434,
-    1505, 1971, 1673, 4502, 558, 4502, 4502, 4204, 3908, 4093, 3092, 2585, 1384, 1474, 4260, 4384, 621, 805, 3171, 4297,
-    2901, 1406, 1089, 1654, 1905, 154, 155, 3266, 3590, 2754, 662, 3877, 598, 1392, 4436, 1483, 2712, 4349, 1666, 2303,
-    4495, 4502, 4502, 4502, 1356, 4502, 4502, 4502, 1949, 3712, 4502, 1568, 4502, 4294, 4502, 4502, 4502, 4502, 884,
-    2047, 1400, 1531, 588, 39, 40, 749, 4502, 3355, 4502, 4378, 2588, 4502, 1402, 2979, 3736, 1667, 4030, 1222, 3911,
-    3278, 4502, 4502, 3072, 4502, 1873, 4502, 968, 1047, 1321, 748, 534, 4502, 4502, 4305, 4502, 2048, 3812, 2968, 4502,
-    1168, 2058, 1545, 421, 4502, 4502, 4502, 4502, 4502, 904, 4417, 2459, 384, 653, 4502, 2110, 3546, 4502, 766, 4502,
-    4502, 2436, 1845, 4502, 1333, 188, 771, 2019, 2332, 3968, 189, 2615, 2283, 4248, 2699, 704, 2217, 3495, 890, 1125,
-    4502, 1914, 4502, 4502, 2446, 763, 2141, 387, 2546, 4502, 4502, 4182, 4236, 4293, 4298, 1022, 2669, 2306, 3498,
-    1028, 1830, 2309, 4032, 3026, 1068, 914, 2296, 4108, 3819, 1328, 3522, 2342, 4421, 4502, 2407, 787, 4502, 4502,
-    4502, 4502, 1700, 2804, 1526, 322, 1067, 2181, 1880, 1999, 4452, 1295, 4087, 3746, 4502, 4502, 4502, 1429, 768,
-    4502, 4502, 3034, 4502, 2261, 4502, 4502, 4502, 4502, 681, 1515, 3801, 3802, 2056, 2533, 4502, 3224, 1864, 1940,
-    1824, 2960, 4502, 1014, 4328, 3675, 572, 1053, 2082, 4502, 4502, 4502, 4502, 4502, 2990, 2031, 3167, 289, 4502,
-    3525, 636, 3088, 3462, 4502, 4258, 4502, 1871, 3839, 238, 2741, 3696, 2384, 647, 4502, 4502, 4502, 3119, 960, 3149,
-    3005, 2984, 4502, 4502, 3189, 1206, 4502, 4434, 722, 415, 1234, 4376, 4049, 1145, 1692, 2912, 866, 147, 273, 148,
-    45, 1102, 1045, 464, 4502, 1481, 3915, 3808, 3889, 3468, 4502, 218, 1843, 3471, 4502, 1868, 418, 1758, 4502, 4502,
-    3001, 4502, 4502, 4502, 4502, 2419, 4185, 3281, 3591, 4451, 4502, 391, 1674, 4502, 3730, 336, 3755, 3936, 807, 2803,
-    4056, 1071, 423, 1502, 2086, 2433, 3482, 331, 2287, 3244, 2809, 4502, 4502, 4502, 1962, 2536, 4317, 885, 4469, 4211,
-    685, 323, 1221, 4502, 445, 352, 4200, 1897, 793, 2801, 4343, 2247, 2416, 4502, 4502, 4502, 2024, 373, 4061, 4502,
-    3605, 4502, 4092, 4502, 4502, 4502, 2153, 2500, 4502, 3862, 280, 4502, 4502, 4502, 3409, 268, 2632, 4352, 2012,
-    1272, 3876, 905, 910, 3318, 4502, 1366, 4078, 4502, 4502, 4502, 394, 4502, 2747, 1790, 4502, 4502, 2502, 2463, 4502,
-    4502, 4502, 4502, 4502, 4502, 4502, 4502, 602, 4502, 4502, 4077, 1141, 3692, 1727, 1424, 539, 2428, 4197, 451, 4502,
-    4502, 3063, 3065, 4502, 2318, 61, 4203, 991, 4218, 2589, 2745, 3544, 3545, 1536, 2356, 2470, 52, 3489, 1297, 2930,
-    1530, 3118, 772, 1147, 3882, 3756, 1251, 3549, 2316, 2347, 1368, 3813, 50, 839, 3686, 4243, 1813, 4425, 1954, 1634,
-    3264, 2029, 2431, 269, 2822, 2847, 1815, 2032, 2422, 1291, 4161, 2395, 3020, 4502, 2795, 2333, 3105, 553, 854, 4399,
-    1842, 4502, 301, 4472, 2391, 1629, 4122, 985, 573, 1488, 646, 1660, 1286, 1446, 4042, 2130, 233, 1738, 3252, 1696,
-    3254, 3630, 4502, 4502, 4502, 1347, 3008, 4502, 4502, 3238, 4502, 4502, 4502, 4502, 2511, 2627, 2324, 1308, 4486,
-    967, 347, 3443, 4502, 4502, 4502, 4065, 4502, 1931, 864, 1038, 4036, 3188, 2144, 2036, 3929, 457, 2361, 2124, 779,
-    1342, 972, 3408, 3401, 1762, 4479, 4262, 4172, 1255, 1061, 2377, 3035, 3077, 2840, 4173, 1387, 2995, 2985, 3610,
-    3840, 4088, 3419, 2946, 3636, 2996, 4502, 2659, 4266, 4470, 4502, 4502, 4502, 4502, 136, 2164, 137, 1716, 1555,
-    4502, 4502, 4308, 4502, 1401, 4502, 4502, 3800, 4502, 2639, 827, 3183, 4502, 4502, 3684, 2933, 1811, 3067, 2385,
-    2780, 4300, 3777, 2956, 2727, 1210, 582, 190, 85, 1463, 1522, 1449, 2693, 2694, 2788, 2816, 719, 4178, 2161, 161,
-    162, 2687, 1170, 1859, 2793, 178, 179, 358, 3305, 2635, 3740, 2797, 3502, 1094, 3658, 3461, 4502, 4225, 4502, 3818,
-    4502, 4502, 1678, 2623, 4502, 349, 1640, 4502, 1075, 4502, 4502, 1508, 4207, 567, 403, 4502, 532, 33, 34, 867, 4502,
-    4502, 4502, 691, 1213, 2718, 4154, 4158, 1708, 253, 2634, 2222, 1760, 4340, 3007, 453, 383, 944, 2513, 2249, 4107,
-    2595, 4502, 3608, 4216, 1244, 3440, 1929, 2050, 576, 4167, 4241, 4429, 2919, 3571, 4502, 1461, 2696, 4113, 2421,
-    3572, 4411, 2897, 2898, 3809, 1898, 3381, 3382, 3935, 3044, 2126, 3787, 2648, 678, 3666, 4502, 2622, 4502, 1081,
-    4502, 3837, 4054, 1040, 1103, 2121, 4502, 4502, 1728, 4012, 3742, 3933, 4502, 559, 4502, 4502, 2439, 1598, 2440,
-    1886, 2460, 366, 4502, 4502, 3603, 1551, 1186, 66, 4502, 4502, 2007, 2037, 79, 1049, 3669, 1121, 1122, 3717, 797,
-    4062, 3646, 4502, 2705, 0, 2813, 613, 3403, 2245, 1779, 17, 18, 4502, 1946, 3114, 2208, 4502, 2807, 4502, 4502,
-    4502, 4502, 3879, 3880, 3624, 2004, 1870, 1317, 4502, 3045, 4502, 4502, 4502, 1294, 4502, 4502, 1713, 2566, 4502,
-    3228, 4454, 4502, 279, 1302, 1769, 4502, 4502, 4502, 4502, 4502, 4502, 4502, 4502, 4502, 4502, 4502, 1123, 4502,
-    4502, 4502, 4502, 4502, 4502, 4502, 1933, 4502, 4502, 4502, 4502, 957, 4502, 2423, 2282, 4502, 3329, 1452, 4131,
-    194, 3113, 683, 601, 460, 2215, 857, 597, 1137, 4502, 3108, 762, 4502, 4502, 4502, 4502, 3151, 585, 4502, 4502,
-    4502, 4502, 684, 4502, 4502, 4502, 2094, 1316, 4502, 2781, 2676, 4502, 4502, 1378, 4502, 3822, 3823, 86, 1267, 68,
-    4206, 2987, 4279, 3145, 171, 3606, 4106, 4502, 1662, 62, 489, 1119, 1120, 4238, 2103, 1610, 3307, 4502, 4502, 1419,
-    4502, 4502, 4502, 4502, 3900, 4502, 715, 4446, 3017, 2194, 2139, 2195, 1919, 4099, 3594, 282, 1679, 4502, 4502,
-    4502, 1776, 4502, 1500, 3991, 4502, 4502, 700, 2921, 4502, 676, 4502, 4502, 388, 3428, 4502, 4502, 4502, 1604, 4502,
-    4502, 4502, 1780, 4502, 4502, 2970, 4502, 3344, 2351, 1130, 3192, 616, 4502, 4502, 2787, 4502, 4502, 410, 2799,
-    4014, 4502, 4502, 4502, 4502, 4502, 182, 633, 183, 4269, 3309, 4502, 665, 4285, 4051, 850, 620, 411, 3062, 4461,
-    196, 455, 2908, 941, 1433, 3154, 3589, 2983, 1435, 468, 4502, 3992, 1511, 4489, 102, 103, 2240, 2244, 2721, 2715,
-    1569, 2184, 4502, 3977, 1226, 4502, 4502, 1957, 4502, 4502, 4502, 1570, 4502, 4502, 4502, 4307, 1241, 4502, 4502,
-    4480, 4502, 4502, 4502, 4502, 2854, 4502, 4067, 2119, 4502, 3497, 1638, 3348, 3161, 285, 1192, 2148, 3050, 207,
-    3198, 4345, 2271, 4502, 4502, 2658, 3129, 365, 3202, 4502, 4502, 4502, 4502, 4502, 701, 753, 2568, 2643, 4079, 4199,
-    778, 4358, 3139, 977, 3997, 1174, 2484, 4095, 2580, 1358, 3367, 3464, 509, 2380, 1129, 1877, 225, 3553, 3640, 3781,
-    2685, 920, 830, 3465, 3285, 3661, 1642, 802, 3782, 3009, 3470, 2501, 4502, 3104, 4502, 2491, 4502, 4035, 4502, 4502,
-    4502, 1146, 2844, 1572, 4502, 4502, 4153, 858, 4502, 4502, 2328, 3467, 1456, 429, 380, 2033, 1177, 2824, 1537, 4292,
-    3555, 2522, 975, 2278, 590, 1875, 2671, 4502, 2611, 4502, 3493, 1088, 4502, 4502, 4502, 2871, 4221, 3444, 1688,
-    1694, 4502, 1533, 1677, 725, 1977, 836, 1558, 180, 181, 2457, 1161, 3773, 4502, 935, 4117, 2629, 4380, 4502, 4502,
-    2641, 4502, 4502, 4502, 4502, 4502, 4502, 4502, 3321, 4482, 395, 1602, 2396, 1601, 1466, 2272, 1438, 1918, 3373,
-    2055, 2853, 1891, 1659, 1671, 3253, 3550, 2320, 3494, 847, 848, 3185, 2604, 71, 436, 4226, 931, 4209, 2346, 1730,
-    898, 3979, 3509, 1925, 2873, 4382, 627, 1643, 3893, 3894, 318, 1280, 4502, 4233, 4502, 4502, 4475, 994, 3794, 1336,
-    2372, 1840, 3920, 3921, 3407, 55, 3168, 4502, 4502, 792, 788, 2575, 3275, 1731, 3172, 310, 1746, 1683, 4502, 1131,
-    3150, 3283, 4502, 4114, 89, 2190, 2191, 3003, 4490, 1197, 90, 2494, 4369, 3798, 3417, 962, 3265, 1389, 3601, 4028,
-    3928, 3221, 3976, 4502, 4502, 1203, 3391, 1428, 2520, 720, 2952, 2034, 566, 1139, 1670, 3209, 4502, 1228, 2265,
-    1189, 3528, 1793, 2662, 4502, 868, 4502, 4502, 4502, 3360, 4502, 3816, 1616, 2633, 1471, 4404, 909, 2681, 422, 2843,
-    723, 1772, 3308, 1243, 1444, 1823, 2376, 4502, 4502, 1052, 4502, 1724, 74, 3973, 1968, 3234, 305, 4502, 4502, 4091,
-    4502, 623, 4502, 4502, 4502, 3087, 4502, 4502, 4502, 2938, 2709, 4502, 4502, 4502, 4010, 4502, 4502, 2753, 1298,
-    3197, 4502, 463, 4502, 4502, 4502, 4502, 3881, 3565, 2475, 4502, 4502, 4502, 2917, 3257, 1083, 1414, 1560, 3351,
-    337, 3169, 4502, 1150, 3270, 4502, 2160, 3857, 833, 70, 284, 2468, 3226, 974, 1042, 760, 1172, 1869, 392, 2176,
-    2613, 2850, 2260, 4401, 1032, 2883, 330, 465, 1751, 583, 4273, 1862, 4502, 4502, 4274, 4502, 4502, 260, 4502, 4502,
-    2237, 4502, 1705, 4502, 2066, 1361, 150, 151, 3059, 729, 4502, 4502, 4288, 3085, 4502, 4502, 4100, 2610, 2817, 2196,
-    4143, 2105, 4502, 1034, 3418, 4502, 1476, 4502, 3721, 4502, 3516, 374, 311, 3406, 4359, 689, 2587, 2851, 1828, 4502,
-    3508, 4502, 4502, 3010, 4502, 4502, 4502, 3217, 1990, 4502, 4003, 4502, 385, 1468, 3705, 29, 30, 163, 164, 2735,
-    783, 2182, 3576, 184, 1112, 1113, 2967, 185, 2572, 2117, 3761, 4326, 2465, 764, 2394, 822, 3013, 3429, 4502, 3585,
-    1874, 3310, 4502, 666, 3700, 4502, 4502, 4502, 4332, 4502, 4026, 2673, 4502, 4502, 4502, 4502, 4502, 736, 3098,
-    1750, 2462, 3927, 4502, 4502, 4502, 4502, 3912, 3518, 2331, 2270, 2986, 4502, 554, 4502, 4502, 3051, 4502, 4455,
-    3195, 4304, 1970, 3422, 2905, 4502, 4066, 4502, 4502, 4142, 4502, 4502, 4502, 863, 581, 4502, 660, 3792, 835, 3793,
-    1703, 682, 3135, 3099, 2093, 3867, 3414, 2362, 2151, 4365, 300, 2857, 726, 3054, 1039, 1020, 3613, 3697, 896, 737,
-    4009, 3943, 3622, 3625, 3637, 193, 4502, 3262, 4502, 4502, 4502, 3667, 4502, 2223, 2661, 578, 4502, 1305, 4502, 887,
-    888, 3326, 1376, 428, 4275, 483, 3132, 2504, 4502, 3648, 4424, 1930, 1111, 1065, 2219, 1594, 37, 38, 492, 493, 2849,
-    4155, 2716, 1218, 1258, 432, 2077, 3729, 3556, 3301, 2603, 3965, 2225, 952, 1544, 296, 2449, 3241, 973, 3028, 2256,
-    745, 3656, 651, 4502, 4491, 2235, 4502, 4282, 4502, 2166, 3016, 427, 1771, 2932, 2819, 3211, 4413, 933, 1283, 1451,
-    1609, 997, 1852, 3248, 3371, 3126, 4184, 4502, 4502, 4094, 2175, 4502, 4502, 4502, 4502, 4502, 4408, 4474, 1413,
-    2567, 4502, 3852, 4224, 4502, 4502, 3999, 3834, 3835, 2170, 860, 2251, 1436, 4502, 4502, 1612, 333, 2966, 3199,
-    2594, 2340, 1720, 3677, 4256, 4502, 2366, 4502, 591, 67, 4502, 2137, 2232, 4502, 642, 2993, 2939, 4502, 1806, 2224,
-    4502, 1777, 4502, 4502, 4502, 4502, 775, 2514, 3358, 668, 498, 4013, 4052, 94, 3548, 228, 2097, 2768, 2426, 343,
-    4157, 3723, 2833, 3124, 4448, 804, 4502, 4502, 1548, 1593, 4502, 4502, 4502, 4502, 1944, 4502, 3974, 272, 2902, 118,
-    2178, 4502, 4502, 4502, 4502, 4098, 4227, 1571, 4502, 4502, 4502, 3487, 4502, 2584, 3200, 145, 146, 2725, 4286, 215,
-    2791, 4389, 2576, 1362, 4458, 1167, 3649, 2476, 405, 363, 4502, 1217, 942, 1012, 4502, 4502, 2388, 121, 477, 4502,
-    4502, 4502, 965, 2288, 127, 128, 4327, 2173, 2762, 515, 3592, 4502, 4171, 869, 3718, 4502, 4502, 4502, 4502, 4502,
-    2497, 2714, 4196, 4502, 4502, 4502, 4502, 2550, 4502, 630, 4502, 4080, 770, 1613, 291, 4502, 4502, 4502, 4502, 4502,
-    4502, 4502, 4502, 3708, 4502, 1404, 4502, 871, 4174, 4502, 3412, 1086, 2290, 4502, 4502, 4502, 3142, 4502, 2236,
-    484, 4502, 1393, 1535, 4096, 2647, 641, 1689, 3331, 3332, 3866, 4502, 4494, 1506, 1279, 3436, 1945, 1026, 3006,
-    2441, 4502, 4502, 4502, 2479, 211, 4330, 4075, 1818, 1457, 2915, 2210, 3687, 2375, 407, 1721, 2163, 643, 3501, 4502,
-    4502, 469, 4447, 2218, 87, 88, 1856, 1310, 4502, 1912, 2291, 2655, 3732, 1586, 4015, 1278, 3011, 3587, 2010, 1979,
-    4237, 275, 4295, 971, 3631, 586, 4318, 2046, 2914, 1917, 2450, 2009, 476, 2277, 1056, 2107, 1324, 65, 1265, 3433,
-    4319, 4502, 3530, 2858, 921, 3599, 2684, 1106, 1816, 3284, 3290, 3130, 249, 4502, 4502, 4502, 4502, 2042, 4502,
-    4502, 4502, 727, 874, 1118, 4502, 4502, 649, 738, 3204, 1519, 3205, 575, 4502, 4502, 4502, 4502, 4502, 4502, 1580,
-    4502, 4502, 969, 4502, 4502, 4502, 4502, 1527, 3363, 4502, 98, 99, 2827, 4502, 3300, 4502, 2466, 3319, 1588, 1972,
-    4150, 4502, 4502, 1520, 186, 3771, 3772, 187, 2489, 3131, 46, 785, 983, 4344, 2820, 4431, 2618, 2427, 3251, 2974,
-    3101, 2507, 1017, 4101, 48, 401, 2911, 3157, 3803, 593, 806, 3210, 4502, 4502, 4502, 3642, 4502, 2845, 4502, 4502,
-    4502, 2387, 3938, 1850, 1628, 3811, 895, 4502, 2505, 3337, 4502, 257, 4502, 4502, 3218, 4502, 4502, 4502, 1377,
-    2846, 4502, 4502, 1599, 3626, 1879, 4502, 3024, 1860, 4502, 1440, 3193, 4502, 1899, 4502, 4502, 2469, 1620, 338,
-    4502, 4502, 2619, 4502, 4502, 1702, 3982, 4502, 4502, 1, 2, 3673, 4502, 4129, 2686, 4502, 1024, 4502, 3632, 3810,
-    705, 535, 1151, 1902, 1369, 2738, 2437, 1224, 2438, 2503, 2350, 264, 1499, 1541, 3993, 2906, 192, 4321, 2252, 2253,
-    1967, 379, 2250, 2098, 1800, 1415, 1773, 889, 3280, 3635, 3617, 2308, 1495, 481, 510, 1173, 3158, 3231, 879, 2860,
-    1473, 4502, 4502, 4502, 3377, 4361, 1194, 917, 2116, 1682, 873, 4502, 4502, 4502, 1134, 4502, 2183, 4502, 697, 4502,
-    1149, 4502, 4502, 4502, 4284, 2304, 1621, 3638, 2839, 3861, 4156, 4044, 357, 3875, 1323, 4502, 3410, 4502, 4502,
-    4502, 2706, 4502, 4502, 4502, 4502, 3123, 2325, 4502, 4502, 4502, 4502, 1996, 4415, 990, 116, 2227, 1293, 4502,
-    4502, 4502, 4502, 4502, 955, 122, 1431, 4217, 346, 4502, 4074, 1786, 4502, 3727, 2636, 4372, 759, 4502, 924, 4502,
-    4502, 4502, 1386, 488, 459, 2108, 4502, 3431, 3633, 3327, 1561, 3076, 4422, 1027, 1290, 2954, 4277, 2950, 4502,
-    4502, 3598, 4502, 4502, 4502, 2397, 4502, 1794, 1851, 4502, 3695, 2399, 4502, 4502, 4502, 4502, 4502, 4502, 4502,
-    4502, 3384, 152, 153, 406, 1232, 823, 3143, 329, 1236, 1116, 1117, 4336, 1101, 286, 115, 3080, 1985, 2168, 131,
-    2545, 1623, 1382, 3845, 4121, 1309, 4502, 4502, 4502, 4502, 4502, 3259, 4502, 4254, 4502, 4397, 4502, 4502, 298,
-    4145, 3958, 979, 3023, 4502, 1013, 1046, 3609, 1091, 1231, 816, 304, 2352, 4502, 123, 124, 4502, 4502, 2133, 2534,
-    4502, 4502, 4502, 861, 4502, 4502, 232, 4170, 4302, 4502, 3416, 3478, 2145, 2742, 1180, 3073, 4370, 3672, 4502,
-    4502, 4502, 4502, 1563, 4502, 4502, 4502, 4502, 755, 3623, 1895, 4428, 625, 1311, 2273, 3871, 4502, 4502, 2487, 91,
-    946, 174, 175, 1363, 100, 101, 2777, 3961, 2169, 505, 4502, 4502, 4502, 4502, 4502, 808, 3425, 3726, 3277, 4502,
-    3174, 3704, 3760, 2621, 4068, 208, 3749, 3841, 4502, 4502, 95, 96, 774, 402, 3387, 1458, 4031, 2811, 3078, 4502,
-    4502, 4502, 4502, 2062, 4502, 3177, 3600, 1190, 3046, 3047, 2660, 1188, 1437, 549, 2778, 4502, 1718, 3627, 571,
-    4502, 231, 740, 4257, 3659, 2790, 4342, 4502, 281, 4502, 4502, 4502, 2672, 3345, 3527, 299, 724, 3435, 3668, 3970,
-    4502, 3222, 381, 1907, 1015, 4502, 4502, 4502, 4502, 1501, 2961, 3396, 4242, 639, 35, 36, 2538, 2769, 4414, 4394,
-    2198, 2893, 4502, 781, 496, 1379, 247, 3246, 4339, 4502, 4502, 4502, 711, 4502, 4502, 2971, 4502, 1663, 3057, 3865,
-    2162, 2115, 1785, 3602, 4405, 396, 3595, 4192, 2837, 4222, 1768, 3535, 3166, 2129, 2808, 64, 4481, 1861, 1690, 1585,
-    1959, 1388, 875, 2354, 538, 2201, 364, 2653, 494, 2298, 2329, 1489, 4268, 4005, 1841, 234, 1644, 1951, 2805, 4445,
-    634, 2899, 1909, 936, 359, 4502, 4502, 3112, 439, 1781, 3791, 4502, 4386, 4502, 2152, 3663, 4502, 4502, 2155, 3922,
-    4398, 838, 1736, 4502, 2981, 2666, 4073, 2447, 2188, 4502, 4502, 4502, 4502, 198, 4502, 3578, 2831, 4502, 4502,
-    4502, 3827, 4502, 3833, 4502, 4502, 4502, 3526, 3523, 4502, 3764, 2003, 1767, 1523, 4502, 4502, 1178, 2294, 1978,
-    340, 3159, 2980, 2733, 3447, 2134, 2209, 4502, 851, 1757, 1370, 4502, 1916, 140, 4502, 4502, 2521, 4502, 4502, 4502,
-    2410, 522, 4160, 4502, 4502, 1611, 2544, 4502, 4502, 4502, 3030, 600, 954, 3058, 4179, 2274, 4502, 1110, 1109, 4502,
-    4502, 4502, 141, 142, 1327, 4502, 4502, 449, 2796, 2818, 2269, 1136, 1084, 3851, 4502, 2429, 4502, 4502, 2625, 4502,
-    4502, 4502, 4502, 3362, 2730, 4502, 4502, 2075, 1322, 3899, 4502, 4502, 1636, 4502, 4135, 4502, 4239, 4502, 4502,
-    4502, 606, 2464, 2654, 2495, 114, 3824, 110, 111, 4502, 1225, 1641, 2907, 2565, 2596, 1576, 2924, 524, 525, 3184,
-    3817, 4485, 3336, 502, 480, 1782, 4502, 2688, 4502, 3272, 1010, 4502, 865, 4502, 4502, 2554, 4423, 450, 4502, 1237,
-    409, 3536, 4502, 2238, 4502, 3906, 4502, 4502, 4502, 4502, 1445, 3061, 3843, 4502, 4205, 4064, 4502, 3451, 4168,
-    4502, 4502, 4502, 4502, 1528, 504, 4502, 4502, 4502, 3110, 1540, 2599, 2600, 1000, 3960, 2076, 4502, 4502, 2242,
-    2264, 3315, 1778, 2370, 1204, 3804, 1546, 3805, 2605, 219, 2652, 4439, 2085, 1745, 2948, 2401, 2900, 2982, 3582,
-    3134, 2131, 4151, 3033, 2607, 4020, 3934, 2379, 1205, 1019, 3398, 4502, 995, 4502, 4502, 4502, 4000, 1064, 4502,
-    786, 840, 4502, 4502, 1250, 4502, 2882, 4502, 4502, 4502, 4103, 1987, 4084, 4502, 4502, 4502, 1596, 3651, 4502,
-    4502, 4502, 4502, 4202, 261, 4502, 4502, 4502, 4502, 4502, 4502, 1961, 371, 731, 4502, 4502, 4502, 4280, 4502, 1982,
-    3227, 2569, 542, 4502, 3904, 3299, 4152, 3504, 856, 517, 325, 1320, 251, 2579, 4502, 4502, 4502, 657, 506, 992, 922,
-    2336, 4502, 1273, 513, 4502, 2532, 4502, 4502, 3650, 4502, 1835, 1839, 4502, 4502, 4502, 1216, 3540, 3541, 1238,
-    4502, 4126, 1260, 1725, 3821, 4502, 3665, 4502, 1976, 4502, 4502, 3657, 4502, 4502, 4502, 1196, 3379, 4390, 4502,
-    4502, 3945, 4502, 1277, 4502, 4502, 4502, 3524, 4338, 2887, 2015, 3232, 4033, 3910, 3980, 4310, 1695, 2323, 2165,
-    2852, 2909, 1590, 1035, 2280, 2498, 4502, 4502, 4502, 4311, 4502, 3890, 3891, 4120, 3547, 3614, 4502, 4502, 4502,
-    4395, 4502, 3075, 1597, 4502, 2937, 3694, 3733, 2233, 4341, 2904, 1632, 1459, 1619, 81, 3994, 4176, 2936, 2895,
-    4357, 3103, 3513, 930, 1774, 2880, 3969, 1093, 3208, 3055, 876, 707, 4040, 640, 1948, 1477, 963, 3316, 1350, 4502,
-    4502, 4502, 4502, 2496, 4502, 2072, 4502, 4502, 4502, 812, 3180, 3117, 3014, 4502, 1417, 316, 3388, 2314, 4502, 58,
-    4234, 4502, 4502, 4502, 4502, 2792, 4502, 1403, 72, 3212, 2434, 3268, 3191, 3510, 2095, 824, 1539, 2640, 4502, 4498,
-    687, 4502, 4502, 706, 2958, 3152, 4502, 4502, 3223, 1549, 390, 3236, 4247, 2620, 3267, 2726, 4043, 2171, 4016, 4047,
-    3939, 3820, 4111, 3722, 826, 569, 4502, 4502, 1637, 4502, 4502, 4502, 3056, 4053, 4055, 1885, 4502, 4502, 2411,
-    3561, 1183, 345, 2836, 1798, 4502, 4502, 4502, 4502, 4502, 4502, 4502, 4502, 4502, 293, 4502, 1058, 4502, 3962,
-    4502, 1910, 2889, 1761, 1209, 3340, 3341, 677, 1965, 2829, 1462, 212, 2806, 1680, 2403, 4502, 4303, 4502, 1975,
-    3858, 3859, 1124, 307, 3303, 3552, 4420, 2099, 1665, 4249, 4502, 4502, 3884, 3885, 3754, 2078, 1992, 1733, 134,
-    4001, 135, 2492, 276, 3380, 3714, 4502, 4502, 4502, 2430, 4502, 1249, 4502, 4502, 4086, 3453, 1927, 750, 2112, 3456,
-    4502, 2814, 3245, 2903, 4502, 4418, 4502, 339, 4502, 4492, 4502, 4337, 810, 4502, 1607, 4502, 1722, 1268, 448, 4133,
-    612, 580, 1684, 3405, 893, 2404, 2516, 886, 3830, 4502, 3750, 4502, 4502, 4502, 4502, 4477, 2080, 4502, 4502, 1614,
-    617, 3856, 4502, 4502, 4502, 1587, 564, 4502, 757, 592, 4002, 440, 3146, 2616, 4502, 3789, 3170, 4502, 1938, 4025,
-    4502, 4502, 3291, 3738, 4502, 4502, 543, 2535, 4502, 3562, 1698, 4502, 2382, 4502, 1653, 4502, 4502, 4502, 4502,
-    372, 4502, 923, 172, 173, 2586, 4323, 3956, 1754, 516, 1820, 4502, 4502, 4502, 4502, 4502, 4502, 4502, 4502, 4502,
-    3914, 2558, 577, 1132, 2006, 2975, 1367, 7, 4127, 8, 176, 177, 2964, 3557, 4502, 2927, 4335, 4502, 2541, 4502, 1936,
-    4502, 2525, 1051, 4502, 741, 4502, 4502, 679, 2326, 4502, 1179, 4502, 4502, 3115, 4502, 3995, 4502, 4502, 4502,
-    4502, 587, 4278, 956, 4502, 3737, 4502, 3898, 4502, 4502, 4502, 1529, 4502, 670, 4502, 4502, 2262, 3343, 3596, 4502,
-    4502, 4502, 4502, 4502, 3747, 988, 4502, 1997, 1704, 1475, 3423, 4502, 4502, 217, 4502, 1289, 3662, 4502, 4502,
-    2553, 2785, 4502, 2471, 1739, 4502, 4502, 4502, 4502, 4502, 4502, 3438, 2918, 4502, 4502, 2798, 2719, 4502, 1853,
-    2957, 3233, 4393, 2916, 629, 3483, 271, 3116, 75, 901, 2230, 742, 817, 2527, 2549, 3767, 680, 3748, 4251, 4007,
-    4050, 3420, 2221, 3942, 3815, 3931, 926, 912, 2414, 1306, 4502, 4502, 4502, 1984, 4502, 290, 3133, 1658, 4502, 4502,
-    4457, 4502, 938, 4502, 4502, 4502, 2349, 773, 1257, 1162, 664, 2185, 2740, 2341, 2412, 3486, 769, 3038, 3567, 4502,
-    2562, 4502, 1239, 327, 4502, 2885, 3998, 1357, 2289, 520, 2027, 693, 1748, 877, 2381, 1002, 732, 3765, 3766, 3330,
-    426, 3214, 3215, 3216, 3628, 3959, 1399, 4419, 4430, 3128, 4502, 996, 3286, 4265, 3985, 220, 813, 4502, 1805, 4502,
-    4502, 2868, 4502, 4502, 252, 4363, 1983, 4502, 3125, 1156, 4502, 2547, 3788, 1504, 1821, 4502, 3660, 3783, 354,
-    2482, 2571, 1154, 1096, 2113, 456, 3532, 1887, 398, 1579, 2067, 790, 243, 309, 2890, 801, 2608, 2835, 49, 2761, 761,
-    1105, 717, 2728, 1126, 143, 144, 3971, 2453, 4245, 2091, 412, 1223, 3655, 315, 2485, 3446, 3378, 1246, 608, 4502,
-    2039, 1799, 4502, 2135, 4502, 2697, 350, 341, 1158, 4502, 4502, 4502, 4502, 4502, 2935, 4410, 2234, 4312, 1574, 197,
-    1809, 765, 3394, 3395, 1364, 2402, 1717, 2057, 3989, 2281, 3916, 2949, 565, 3106, 3043, 4502, 4502, 4502, 4502,
-    3543, 3176, 2583, 4502, 1749, 4502, 4502, 2943, 2628, 3093, 3930, 4123, 2841, 295, 1764, 3551, 3560, 2038, 900,
-    4449, 526, 1346, 4502, 4502, 4502, 4502, 2207, 1371, 4502, 4502, 4351, 3164, 2248, 1066, 3846, 1953, 1285, 2774,
-    948, 2920, 1425, 999, 2526, 3716, 3957, 4478, 3996, 370, 2638, 1847, 69, 1296, 3282, 1686, 1624, 3634, 2266, 1314,
-    2998, 3575, 3472, 4502, 4502, 3313, 4502, 4502, 4118, 698, 1672, 604, 2451, 2179, 692, 4502, 551, 648, 1005, 4502,
-    1421, 4502, 4502, 4502, 1849, 4502, 589, 1211, 2216, 4502, 574, 644, 809, 4309, 2707, 419, 4502, 959, 756, 2213,
-    442, 4502, 2548, 2543, 2317, 4231, 4502, 4502, 913, 4502, 3069, 1802, 4502, 4502, 4502, 1710, 4132, 4502, 342, 2013,
-    3485, 811, 3364, 3365, 191, 248, 2751, 1516, 951, 3260, 3564, 408, 1166, 2667, 4058, 943, 1080, 2297, 2999, 4502,
-    998, 1448, 3735, 1792, 2731, 3349, 3350, 3207, 2528, 27, 28, 1480, 1737, 4502, 4502, 4502, 656, 2874, 3838, 4502,
-    3484, 4102, 2717, 3654, 4502, 3455, 4502, 4502, 4502, 4502, 4502, 4502, 4215, 918, 4502, 4502, 4502, 527, 1538, 528,
-    3213, 3137, 2359, 937, 4105, 3460, 537, 3002, 224, 3941, 4502, 4502, 2408, 882, 883, 4500, 3279, 4502, 2467, 4502,
-    4502, 4502, 283, 1354, 4502, 2158, 595, 746, 3762, 3763, 4046, 3896, 3897, 4048, 2723, 1148, 4502, 4502, 663, 4502,
-    4502, 4502, 3029, 4502, 1714, 2189, 404, 2856, 2364, 2810, 4502, 4502, 138, 4141, 139, 4281, 2879, 4147, 4333, 2374,
-    881, 461, 872, 4502, 1723, 500, 3681, 1337, 1876, 3566, 1998, 1341, 356, 2784, 3276, 3322, 1460, 796, 2254, 1783,
-    2030, 3375, 3196, 2855, 1138, 479, 4502, 3612, 1441, 1995, 2929, 1099, 4502, 880, 4502, 3778, 3475, 4502, 4502,
-    4502, 4502, 4502, 4027, 2334, 4502, 3068, 4037, 820, 4362, 708, 3639, 3685, 1391, 3306, 2483, 4487, 547, 2763, 3579,
-    4502, 4502, 4502, 4502, 3052, 2114, 4502, 4502, 4463, 1747, 618, 3463, 425, 3743, 1199, 2008, 3768, 4502, 3111,
-    4502, 4502, 4502, 4502, 2473, 4502, 4502, 4502, 4502, 4502, 4502, 4502, 4502, 4502, 4502, 4502, 4502, 832, 4502,
-    3653, 2700, 4502, 4502, 1070, 4502, 4502, 4502, 1252, 3984, 3986, 377, 2869, 4313, 230, 3795, 3796, 2862, 3944,
-    1496, 903, 2206, 3089, 454, 3079, 2212, 982, 2079, 3709, 1807, 3263, 3186, 4502, 4136, 2311, 4502, 3887, 3888, 3975,
-    2626, 3338, 1589, 3339, 3863, 2059, 3328, 3864, 2561, 2016, 1229, 1175, 435, 1582, 3066, 4125, 2766, 4320, 2255,
-    4089, 4223, 3389, 2045, 1652, 1697, 2149, 3688, 3086, 3629, 3676, 3769, 3390, 3895, 4502, 1711, 1584, 3878, 1557,
-    431, 2481, 2555, 3521, 2444, 2445, 1057, 928, 3012, 2293, 4502, 4502, 4502, 4409, 3162, 4076, 3492, 4502, 4502,
-    4502, 4502, 4502, 4502, 4502, 4502, 292, 2386, 1648, 4169, 4190, 1906, 4502, 4502, 1041, 4502, 4502, 1565, 4502,
-    4097, 2800, 3289, 1454, 1275, 2358, 4083, 4502, 3850, 4502, 4502, 4502, 4502, 2578, 3036, 2752, 2978, 1001, 1661,
-    3563, 4306, 1085, 1412, 2517, 2650, 2931, 4189, 4385, 939, 3442, 4021, 2657, 1163, 1564, 2409, 1943, 4440, 3091,
-    2649, 4396, 3932, 2319, 2630, 2157, 2005, 3707, 1373, 2373, 3581, 557, 3770, 4502, 4502, 1617, 1928, 4228, 314,
-    1753, 4232, 1208, 4130, 3153, 2863, 1994, 632, 2136, 21, 22, 2591, 4166, 1352, 1077, 80, 1127, 1385, 3825, 3826,
-    4432, 2035, 3156, 306, 4464, 3368, 1171, 9, 10, 911, 2174, 2211, 3752, 4219, 622, 3715, 925, 3457, 4502, 4502, 3102,
-    3190, 4502, 1493, 1319, 1484, 754, 2692, 1630, 1087, 2442, 2443, 2770, 626, 3780, 853, 3352, 4442, 552, 3138, 4459,
-    11, 12, 1072, 508, 1465, 2698, 4502, 4502, 3261, 4502, 4450, 4502, 4502, 1486, 4502, 4502, 4502, 4502, 4502, 4502,
-    1334, 4502, 1904, 3032, 5, 6, 2529, 2229, 2064, 1687, 3758, 3618, 4502, 4502, 4502, 4502, 818, 4502, 1577, 4210,
-    3258, 4483, 3570, 1343, 2146, 3616, 4502, 4271, 4502, 4314, 4502, 4022, 3719, 1888, 1274, 417, 4502, 3731, 940,
-    4502, 4502, 4502, 4502, 3201, 2486, 2945, 3615, 3155, 2530, 53, 4081, 3759, 2472, 976, 4502, 2826, 4502, 2884, 1140,
-    4502, 4502, 1443, 4502, 1230, 4502, 611, 1464, 4502, 4502, 4502, 1359, 2172, 3333, 3334, 2286, 1185, 1193, 2775,
-    993, 1765, 4214, 4355, 2118, 1650, 3366, 2279, 4502, 2689, 1903, 4383, 1838, 3474, 4502, 4502, 605, 4502, 3039,
-    4502, 1729, 2609, 1215, 214, 4287, 4017, 466, 1069, 953, 3175, 958, 1651, 1299, 3842, 1595, 4406, 4502, 4502, 2140,
-    4502, 4502, 4502, 4502, 2743, 4502, 4502, 4502, 4502, 4453, 2220, 3084, 4502, 1878, 964, 3127, 3496, 4502, 378, 638,
-    4502, 1618, 4502, 1947, 3702, 2842, 4502, 1625, 4331, 3580, 1507, 4159, 4435, 160, 4502, 1455, 2631, 3786, 2360,
-    3500, 4502, 4502, 200, 3347, 2940, 4082, 3520, 389, 4476, 3745, 2794, 1831, 2875, 288, 2243, 278, 4212, 125, 927,
-    4502, 4502, 4502, 658, 227, 842, 4502, 4502, 4502, 4502, 4502, 4502, 57, 2065, 1344, 4388, 2187, 2307, 3479, 4502,
-    4502, 73, 3400, 570, 1550, 4246, 2722, 3978, 3255, 2081, 4502, 4502, 1330, 4502, 1926, 3353, 3354, 767, 259, 3981,
-    2598, 2602, 47, 667, 961, 1259, 4502, 4502, 4502, 302, 3799, 471, 3558, 4488, 2365, 2111, 1834, 3294, 486, 3376,
-    1647, 3042, 4502, 4502, 4502, 353, 1184, 4502, 4502, 2406, 246, 2052, 2344, 3955, 1491, 2834, 1326, 3643, 4502,
-    2690, 3450, 3784, 2202, 1846, 3097, 312, 2335, 1964, 4462, 3963, 4060, 1004, 4255, 1732, 1513, 1608, 3917, 242,
-    3918, 3317, 3670, 2068, 3094, 2043, 265, 4137, 132, 2493, 609, 1155, 41, 2393, 1950, 42, 2089, 1889, 1646, 1524,
-    798, 2415, 3559, 1755, 4502, 4502, 4502, 4502, 4502, 2720, 3434, 1159, 241, 2767, 4502, 4502, 4502, 1980, 2947,
-    2083, 1432, 4502, 4502, 4502, 4502, 4090, 4502, 2512, 4502, 2729, 1335, 3586, 4502, 4085, 4502, 4502, 4502, 2881,
-    718, 4502, 2838, 4502, 1169, 2275, 4502, 2510, 3720, 1157, 4502, 702, 4502, 204, 949, 1181, 3951, 3220, 916, 1810,
-    2096, 1675, 3250, 2321, 523, 4412, 4502, 4502, 4502, 3187, 1770, 1664, 1187, 1416, 2704, 1801, 3645, 203, 129, 4502,
-    4502, 4502, 4502, 2026, 4502, 4502, 1430, 1518, 791, 485, 2363, 3413, 4502, 4502, 845, 846, 4164, 2682, 2942, 2701,
-    4502, 2878, 4502, 4502, 1796, 3847, 4502, 1715, 3774, 3775, 694, 1078, 4502, 317, 4024, 2886, 3437, 3359, 4502,
-    2537, 1390, 3324, 4433, 2023, 1008, 4502, 4502, 1803, 4502, 4493, 3203, 2573, 4502, 4502, 1922, 2022, 2268, 3947,
-    795, 3194, 3096, 369, 688, 1657, 2276, 1235, 1514, 3568, 1503, 712, 205, 2418, 287, 158, 159, 2552, 2959, 4438, 981,
-    2088, 2120, 1787, 1263, 2353, 3239, 3445, 4502, 4502, 4502, 4502, 4149, 4502, 3297, 1542, 2125, 4502, 530, 4502,
-    4324, 4502, 4502, 4502, 4502, 4502, 1512, 4502, 4502, 1304, 652, 3018, 4334, 4502, 2327, 2002, 4502, 4502, 1605,
-    3701, 4502, 4502, 4502, 4502, 267, 2044, 3081, 2557, 4296, 3090, 4004, 784, 2203, 1832, 3296, 2305, 4502, 4502,
-    4502, 4502, 2590, 3454, 1079, 1095, 4502, 4502, 4502, 4502, 3392, 3393, 2563, 2506, 4264, 4259, 2612, 3071, 2736,
-    4348, 2955, 1742, 1960, 4502, 4502, 1668, 4502, 4502, 1420, 2542, 4502, 4502, 4502, 4502, 4502, 4502, 2680, 420,
-    3872, 1153, 2400, 2100, 3682, 4502, 4502, 4502, 3249, 487, 4502, 2570, 4267, 3952, 4502, 4502, 4502, 1626, 1494, 83,
-    2551, 2614, 3323, 240, 675, 1345, 3964, 4502, 4502, 4502, 4502, 2127, 1991, 1552, 414, 235, 2458, 4502, 4502, 4502,
-    4502, 3219, 4188, 4112, 2477, 2866, 1952, 799, 2597, 777, 3699, 4235, 2734, 1788, 2744, 1896, 1691, 3785, 4128, 416,
-    4502, 4502, 4502, 4502, 3506, 495, 1329, 4502, 4502, 4502, 4502, 2830, 3302, 4502, 4502, 4502, 4502, 4502, 4502,
-    1202, 1198, 1114, 2231, 1744, 4392, 2461, 3507, 1247, 1752, 1958, 4502, 4502, 2343, 3925, 3287, 4502, 3983, 1245,
-    1332, 4502, 2389, 4502, 4502, 2601, 2624, 2760, 1470, 4134, 4444, 855, 2054, 2617, 2228, 4502, 400, 2991, 1453,
-    4368, 980, 1734, 2645, 507, 2392, 4502, 4502, 2257, 1756, 4502, 3499, 3160, 4502, 1543, 4502, 4502, 4502, 2670,
-    4502, 4426, 1144, 2531, 4502, 4502, 4502, 1615, 843, 844, 4379, 4177, 2773, 870, 1472, 3476, 1784, 3511, 4502, 1025,
-    4502, 2646, 556, 1331, 4187, 1242, 3074, 2593, 2877, 4353, 794, 3849, 1348, 3122, 3064, 4502, 4502, 1836, 4502,
-    3534, 4502, 3860, 4502, 2737, 2951, 3531, 1627, 3607, 4502, 1858, 1128, 4502, 2815, 1656, 4502, 77, 78, 4465, 519,
-    2204, 2559, 4350, 2448, 947, 478, 3488, 3432, 4502, 23, 447, 4230, 24, 2020, 4502, 60, 3424, 4502, 4502, 2683, 1789,
-    4502, 1534, 584, 76, 4261, 4252, 4347, 2703, 2390, 4502, 4502, 4502, 4502, 637, 4502, 814, 4502, 4502, 4502, 1797,
-    2369, 4502, 444, 1442, 1016, 362, 695, 3529, 167, 168, 3060, 2564, 2150, 673, 375, 3109, 2825, 713, 3025, 2499,
-    1271, 1867, 3597, 474, 3369, 4502, 4502, 4502, 4195, 2345, 2454, 1901, 841, 4367, 2071, 2994, 2295, 4502, 503, 4119,
-    3924, 4502, 4502, 2147, 4502, 4146, 4213, 3, 655, 1510, 3230, 828, 4138, 2976, 4, 84, 4443, 470, 4063, 3271, 4502,
-    1030, 4502, 4502, 1603, 1062, 4502, 221, 776, 1706, 4229, 2556, 747, 4057, 2011, 3082, 2679, 1829, 3374, 4502, 4502,
-    2973, 2090, 3120, 3295, 3505, 4502, 4502, 2892, 1427, 4502, 4502, 4301, 2378, 2063, 4502, 4502, 3121, 4008, 4502,
-    1795, 4502, 4502, 482, 413, 837, 1104, 1060, 3182, 3703, 3481, 4502, 4045, 4502, 4502, 4502, 4502, 1709, 3870, 3678,
-    3751, 108, 1573, 109, 803, 3693, 4356, 1108, 1288, 397, 3734, 599, 4502, 4502, 932, 1097, 4502, 743, 1394, 4502,
-    825, 4502, 4502, 4502, 4502, 4502, 2749, 237, 4502, 2420, 4502, 4502, 2888, 4502, 2691, 897, 3814, 4289, 1517, 4471,
-    4371, 3604, 2132, 3647, 2606, 130, 1050, 3583, 4502, 1036, 4502, 1165, 3950, 4011, 1307, 4502, 739, 4502, 4502,
-    4502, 4502, 4502, 4391, 97, 313, 2074, 1195, 2508, 2142, 3165, 2771, 4502, 4502, 4502, 3844, 1256, 2053, 2435, 1411,
-    4502, 4198, 2789, 4502, 4502, 4502, 4502, 4502, 4502, 4502, 4502, 1763, 2154, 3926, 672, 4502, 4502, 2663, 3053,
-    393, 4502, 4502, 4502, 3383, 4502, 4502, 4502, 4502, 4502, 3741, 4437, 1923, 4502, 4502, 4502, 3855, 4502, 4502,
-    3243, 104, 105, 4502, 2592, 3473, 4502, 4502, 4502, 3031, 3100, 2828, 4502, 4402, 950, 1857, 4502, 4502, 4502, 1932,
-    3539, 63, 4502, 4502, 628, 4502, 4502, 4502, 2997, 4180, 3554, 4070, 3790, 4502, 4502, 4502, 4104, 2092, 3728, 4502,
-    4502, 4502, 1248, 3868, 3869, 1685, 4502, 2263, 1963, 1312, 2674, 4502, 2642, 82, 4502, 4502, 4502, 4502, 4502, 703,
-    4502, 4502, 2014, 4502, 4502, 149, 4502, 4263, 2867, 1942, 669, 1418, 1487, 4270, 3515, 945, 458, 4502,
+    5943, 5943, 1565, 5943, 5443, 1618, 65, 5943, 1856, 5943, 5943, 627, 5943, 5571, 5943, 5943, 4743, 77, 5943, 3834,
+    5943, 5943, 5943, 1894, 3138, 730, 4554, 244, 2015, 245, 5687, 5671, 3096, 4800, 5856, 3125, 3003, 4466, 2783, 2339,
+    3212, 2243, 4603, 4604, 3978, 453, 251, 3674, 3515, 2810, 5624, 3810, 2109, 3636, 827, 5943, 2702, 4878, 5943, 5943,
+    351, 5625, 3353, 5943, 5943, 3411, 5755, 5466, 1412, 4203, 5594, 4785, 3658, 3145, 3280, 3784, 2234, 3191, 5396,
+    668, 4714, 5943, 5943, 5943, 5943, 1557, 5943, 2002, 989, 5455, 3055, 5632, 1182, 5943, 2942, 1729, 1753, 964, 2836,
+    2136, 2631, 1782, 82, 745, 2464, 148, 2488, 4619, 500, 2060, 3954, 4103, 5207, 5208, 5344, 2694, 150, 1069, 4846,
+    5943, 4962, 743, 4710, 5943, 957, 4339, 1439, 3472, 2120, 183, 115, 5943, 1103, 5943, 1452, 5943, 5943, 5943, 1569,
+    5606, 4624, 5379, 3140, 1249, 5943, 4938, 5943, 1556, 4514, 2472, 5943, 5762, 5786, 1336, 1781, 4858, 5038, 3260,
+    4779, 2053, 3308, 3352, 5943, 5943, 1370, 1266, 4338, 5943, 1710, 4030, 707, 2225, 1408, 4484, 4054, 5943, 5943,
+    5943, 5024, 5943, 3202, 1460, 2473, 104, 5943, 2601, 4989, 3236, 5943, 5943, 5943, 5943, 4809, 5943, 1859, 4970,
+    2640, 4331, 3493, 751, 1585, 422, 5924, 5363, 5813, 2757, 3252, 2500, 1440, 2553, 1595, 2034, 3001, 2778, 2621, 327,
+    5843, 982, 710, 4079, 2882, 578, 5821, 2127, 3339, 3608, 3643, 2495, 2130, 187, 4457, 68, 2566, 1584, 5200, 5392,
+    4053, 4170, 922, 5731, 5943, 2504, 2680, 201, 2315, 2573, 4237, 3874, 3969, 3104, 1075, 5943, 3363, 5287, 5943,
+    1318, 5943, 2605, 1628, 1886, 4631, 2536, 4321, 654, 5943, 5943, 5943, 960, 5943, 5943, 4723, 162, 241, 1942, 5943,
+    5943, 5943, 5943, 5730, 93, 3510, 1407, 331, 3748, 2143, 5943, 2443, 5943, 5943, 4245, 5840, 5943, 5943, 5943, 483,
+    3166, 1572, 4334, 2758, 1311, 2903, 5943, 4804, 1564, 1355, 4990, 4847, 664, 2446, 3821, 5176, 5177, 887, 1683,
+    1353, 2321, 816, 1812, 1952, 1404, 3021, 5593, 5943, 5540, 44, 2744, 5943, 1643, 5943, 2653, 4130, 26, 27, 5756,
+    5943, 5943, 3923, 1272, 2320, 619, 5337, 4913, 5943, 2208, 5943, 5943, 5943, 180, 5943, 2010, 3650, 3076, 4782, 724,
+    1494, 5555, 5336, 1573, 4383, 4535, 3272, 5943, 4010, 4649, 3597, 3631, 5943, 5943, 5943, 5943, 4530, 5943, 5943,
+    5943, 5596, 3388, 3844, 1113, 3293, 2580, 5739, 1478, 3158, 5847, 1300, 4503, 5465, 2323, 1788, 5000, 2474, 3261,
+    2394, 2789, 2890, 142, 5815, 5900, 586, 4299, 3819, 1093, 4028, 5943, 5943, 3661, 2910, 5943, 5943, 5943, 4934,
+    5943, 1656, 1284, 1247, 4024, 2641, 1708, 5275, 936, 290, 291, 4156, 1014, 2717, 2417, 3982, 673, 1466, 716, 4124,
+    3682, 5360, 294, 1700, 295, 4023, 4742, 2811, 3826, 2406, 3610, 5413, 105, 3456, 1750, 459, 3725, 3233, 2806, 2154,
+    235, 4106, 518, 1241, 568, 5125, 1510, 4389, 5943, 5943, 794, 5943, 1996, 5943, 4983, 2892, 2873, 5943, 614, 5943,
+    3994, 3598, 5243, 5943, 5943, 379, 1274, 5943, 1037, 2058, 4088, 5391, 5943, 5943, 380, 5943, 5943, 5943, 334, 5132,
+    5943, 5943, 4979, 2413, 1152, 1979, 1938, 5437, 5254, 499, 5943, 5943, 5769, 5943, 5943, 2501, 5908, 810, 387, 341,
+    662, 391, 3659, 1800, 2039, 5302, 4538, 5943, 3005, 5943, 5943, 2733, 3714, 4728, 5943, 348, 3514, 2713, 402, 4777,
+    5943, 5943, 5943, 5943, 5943, 5943, 1160, 5943, 5943, 5651, 5943, 5943, 974, 5171, 689, 4943, 1835, 958, 2272, 5943,
+    5943, 2428, 3098, 186, 5403, 5712, 4211, 2840, 581, 5546, 3027, 236, 237, 1668, 3801, 4479, 1270, 1686, 2407, 2867,
+    2514, 5765, 3325, 1522, 52, 1654, 1677, 3079, 5204, 5140, 5943, 5943, 5943, 5943, 2521, 574, 514, 2849, 5943, 3672,
+    258, 5943, 5814, 5943, 2712, 5943, 1536, 1642, 588, 5943, 5943, 5058, 5283, 940, 399, 5943, 5943, 1984, 2256, 824,
+    5943, 981, 1934, 4498, 1884, 2629, 177, 947, 5486, 5078, 3818, 388, 2608, 5172, 2568, 109, 14, 15, 3423, 4521, 2651,
+    2221, 4323, 852, 2964, 1269, 622, 5943, 1663, 5943, 2384, 653, 4123, 4349, 395, 1652, 4068, 5867, 3910, 2087, 1948,
+    2145, 5943, 5943, 5943, 1485, 1026, 3457, 1056, 5943, 5943, 2781, 5943, 5943, 281, 282, 5018, 3273, 3407, 2902,
+    5943, 5943, 5943, 3350, 5943, 719, 705, 3243, 681, 4869, 2743, 2823, 649, 71, 5943, 2207, 5943, 5943, 4763, 16,
+    4154, 17, 3452, 62, 1793, 5323, 809, 4650, 3389, 1869, 2677, 5943, 5943, 5943, 5943, 5943, 3708, 3883, 3099, 5496,
+    5943, 5943, 5149, 5943, 4165, 626, 2259, 3705, 5943, 5943, 5881, 4280, 5943, 2899, 370, 5943, 5943, 5943, 5943,
+    2397, 5943, 3589, 5794, 5800, 2392, 1870, 4036, 1082, 5248, 1698, 3037, 1865, 2581, 4622, 493, 433, 1958, 3214,
+    5498, 2679, 2283, 582, 179, 1432, 4483, 736, 4508, 1857, 5414, 3724, 2046, 2859, 1725, 2569, 4136, 2752, 4698, 5943,
+    3894, 5943, 5943, 863, 5943, 1658, 5943, 5943, 692, 5102, 4187, 3932, 5936, 2176, 1604, 5943, 5943, 2254, 5943,
+    5943, 5943, 5943, 744, 4058, 5612, 2742, 5943, 5943, 5943, 492, 2620, 1881, 1430, 3794, 2355, 2405, 1726, 2852,
+    5039, 4027, 3755, 100, 5943, 5943, 5943, 1252, 5943, 4999, 2929, 5943, 5943, 5943, 5306, 3451, 5943, 5436, 4385,
+    873, 1587, 5943, 1197, 5943, 5943, 1132, 5943, 2491, 5943, 2705, 5943, 5361, 5675, 3292, 684, 5098, 1286, 449, 3745,
+    469, 2773, 5804, 428, 1361, 5943, 3841, 5943, 5943, 5943, 5943, 4692, 1061, 4336, 1294, 1770, 5943, 3282, 5943,
+    3577, 5943, 5943, 1317, 5943, 5943, 5943, 5943, 5943, 1169, 4669, 5943, 5943, 4255, 688, 1517, 802, 5943, 55, 5943,
+    935, 2445, 833, 5943, 5943, 5943, 1543, 2346, 3091, 3092, 5943, 5943, 3845, 3692, 5943, 5943, 2748, 3413, 5943,
+    2764, 2241, 460, 1166, 5943, 4330, 5943, 5906, 1824, 4805, 5817, 4013, 4080, 1523, 4844, 593, 799, 1178, 4302, 894,
+    4840, 1171, 5027, 5943, 5943, 5943, 5943, 5943, 632, 4375, 3570, 1192, 5071, 3217, 5943, 4643, 5943, 2163, 2204,
+    5943, 2238, 2434, 2462, 2399, 782, 446, 5269, 3656, 2907, 2149, 5943, 5943, 5943, 5943, 1712, 480, 3189, 4984, 45,
+    1579, 2749, 1322, 159, 3967, 3190, 4311, 5943, 5943, 5943, 5907, 5182, 5943, 5231, 1684, 5232, 2029, 723, 5943,
+    1925, 5639, 913, 5943, 4666, 338, 4439, 4584, 3157, 2517, 228, 1801, 229, 4046, 5896, 5067, 4694, 3113, 508, 3507,
+    1229, 963, 1170, 2972, 3042, 354, 2435, 1972, 2104, 2116, 2202, 472, 2535, 4574, 3817, 5428, 4188, 1296, 3827, 5090,
+    4125, 5175, 5309, 808, 4747, 2812, 4157, 419, 5322, 680, 5943, 1641, 5943, 4445, 2493, 1149, 4147, 5461, 1150, 4201,
+    4086, 868, 2846, 369, 4683, 3838, 4910, 4895, 1116, 702, 5943, 5943, 2452, 741, 2983, 1895, 4415, 4071, 2463, 2857,
+    364, 2246, 5504, 4641, 5263, 5264, 457, 2470, 3848, 84, 194, 5163, 87, 5943, 5943, 5943, 5943, 1785, 2249, 1701,
+    629, 5943, 5617, 3927, 3473, 1337, 1675, 3711, 3766, 4993, 5943, 5943, 5943, 5943, 2777, 2198, 5010, 2941, 560,
+    5943, 1603, 5943, 4241, 5943, 5943, 1233, 69, 1903, 4909, 5943, 5943, 5943, 2549, 840, 2724, 3442, 2854, 850, 3601,
+    4109, 5943, 1742, 4524, 3058, 1590, 361, 4450, 1678, 4954, 666, 2035, 3707, 3187, 2554, 326, 1019, 2111, 5943, 4360,
+    5317, 5499, 2598, 175, 5318, 5142, 2480, 3296, 4636, 5547, 5265, 1795, 5575, 3747, 2825, 2546, 2561, 2515, 1345,
+    2090, 1307, 2371, 4568, 4569, 2227, 2275, 3331, 5424, 3721, 541, 599, 1383, 655, 32, 33, 1363, 5943, 5431, 5943,
+    5943, 725, 2871, 5943, 2803, 2402, 2725, 2649, 1713, 3689, 5943, 4067, 4586, 375, 3934, 4452, 347, 381, 3448, 3820,
+    762, 942, 1106, 2986, 4382, 2424, 1828, 324, 4447, 487, 3611, 5723, 5827, 4374, 5806, 1606, 5001, 1567, 875, 5271,
+    2719, 2129, 1711, 214, 2004, 215, 4655, 577, 1339, 3085, 320, 3343, 3000, 2181, 2194, 5913, 1909, 138, 143, 3730,
+    609, 1064, 5690, 5076, 3718, 4369, 5943, 3229, 5943, 4850, 915, 3808, 5622, 5541, 4883, 965, 5943, 3200, 451, 2242,
+    5943, 4502, 4070, 5943, 5315, 531, 2869, 5943, 1616, 5128, 3008, 4776, 5943, 5943, 5943, 1699, 1850, 1878, 2519,
+    1306, 445, 3701, 3066, 4707, 1281, 3987, 4076, 5468, 1396, 4751, 5943, 3385, 1157, 3693, 383, 60, 1772, 3022, 4908,
+    1078, 784, 2047, 1073, 1503, 1326, 4679, 4546, 4653, 3812, 5570, 1382, 5943, 2730, 101, 1621, 3222, 5943, 1862,
+    3584, 4522, 5943, 20, 21, 4268, 4670, 3926, 5939, 4680, 3215, 2388, 5943, 5943, 857, 5614, 5943, 4043, 5943, 5943,
+    4342, 5943, 5943, 907, 3864, 5943, 4151, 5943, 720, 3421, 5942, 1292, 3262, 5429, 2916, 5025, 3921, 5053, 1530, 892,
+    444, 2166, 5579, 335, 728, 97, 2728, 2597, 2461, 2927, 4968, 3938, 2842, 3234, 5943, 1936, 5943, 4759, 5943, 5943,
+    5943, 5943, 5943, 2860, 5943, 1504, 5943, 4435, 1515, 5716, 2022, 5267, 5943, 5943, 5943, 5943, 3323, 5943, 985,
+    4616, 4864, 948, 925, 5937, 5513, 1250, 3885, 1976, 4558, 4181, 5943, 1737, 1808, 2551, 5943, 5943, 5943, 739, 5943,
+    5943, 2270, 5635, 5270, 4265, 5524, 3518, 5824, 5700, 1687, 819, 1777, 5235, 2750, 2901, 1044, 2760, 4371, 5737,
+    4000, 1709, 1352, 1957, 4476, 279, 2485, 280, 4866, 2918, 2100, 2164, 2222, 3816, 876, 787, 2707, 1695, 3660, 5876,
+    2273, 1786, 5789, 1969, 3218, 2868, 5935, 2278, 188, 63, 3642, 812, 1659, 5943, 5943, 5943, 5943, 5943, 2529, 5026,
+    5943, 1871, 5943, 5734, 2219, 5943, 5943, 5943, 5943, 5943, 5943, 2627, 1703, 1834, 774, 979, 40, 41, 1140, 2073,
+    2262, 2232, 147, 4567, 2103, 5818, 3521, 3704, 3706, 1705, 4092, 5050, 5432, 1970, 5456, 1525, 3757, 5273, 4488, 79,
+    5943, 5943, 4240, 5943, 5943, 2453, 5943, 1231, 1310, 1624, 708, 5943, 978, 5943, 5943, 5943, 5943, 5745, 2079,
+    5943, 2628, 5147, 4075, 742, 5943, 1470, 2638, 1848, 564, 2732, 2054, 2949, 5943, 5943, 5943, 5943, 5943, 1162,
+    5857, 3392, 516, 5943, 867, 58, 3009, 4813, 2253, 5943, 999, 5943, 5943, 5943, 3369, 2425, 813, 5943, 5943, 1636,
+    313, 1004, 2599, 3255, 5339, 314, 3548, 5681, 3116, 3188, 1147, 2113, 3647, 930, 4748, 2279, 5444, 5943, 1422, 5943,
+    2494, 4205, 5943, 5943, 3379, 996, 5943, 519, 3040, 3479, 5943, 5943, 5943, 5613, 5738, 1291, 5667, 5733, 3227,
+    1285, 2954, 3223, 3602, 4752, 2410, 2184, 5943, 5943, 5459, 4164, 5133, 1331, 1177, 3266, 3208, 5539, 5159, 1631,
+    5120, 5943, 4788, 3772, 5861, 5943, 5943, 3333, 1024, 5943, 5943, 5943, 5943, 5943, 3866, 2003, 5943, 1829, 447,
+    1330, 5943, 3080, 2460, 5943, 2579, 5892, 1598, 5060, 5518, 2099, 5943, 5943, 5943, 5943, 1732, 1001, 2071, 5943,
+    5943, 5943, 4175, 3160, 5943, 5943, 5943, 5943, 5943, 5943, 5943, 901, 1818, 5134, 5135, 3466, 2636, 3769, 1401,
+    2444, 4434, 4065, 4224, 2520, 2404, 5943, 5943, 5943, 1277, 5943, 5768, 4985, 755, 1316, 2981, 5943, 2940, 5943,
+    5943, 4137, 5943, 5943, 4107, 2611, 4365, 155, 414, 5943, 5943, 4791, 841, 5167, 4261, 4699, 2663, 5698, 2150, 5440,
+    2451, 5943, 5186, 363, 3803, 5008, 859, 3309, 3676, 4601, 5943, 5943, 5943, 5943, 4295, 1223, 4340, 4131, 4097,
+    2672, 2958, 2172, 4396, 2258, 1509, 3633, 5874, 949, 5476, 1995, 1537, 555, 5816, 1442, 4012, 1120, 1164, 1384,
+    2666, 4312, 272, 398, 273, 46, 1365, 1308, 616, 3366, 554, 5943, 1784, 5278, 5251, 5143, 5943, 3971, 4709, 5943,
+    343, 2423, 4712, 4906, 5943, 5943, 2448, 558, 2338, 5943, 5943, 5943, 4126, 3703, 5943, 5943, 5943, 5943, 5943,
+    3346, 5616, 4491, 4867, 3980, 5891, 5943, 5943, 523, 1977, 2893, 5044, 5943, 461, 5943, 5069, 1046, 5305, 3865,
+    5483, 1334, 2985, 567, 1805, 3364, 4731, 2771, 2792, 456, 2784, 3196, 2963, 4454, 3871, 2205, 5211, 5943, 5757,
+    2542, 3469, 1141, 1524, 5943, 5943, 5909, 5642, 906, 448, 5943, 5943, 5943, 5943, 592, 484, 5631, 5943, 1030, 3863,
+    5783, 3146, 2477, 3342, 195, 5943, 5943, 5943, 5943, 2604, 505, 5488, 2045, 5943, 5943, 4887, 5943, 5523, 2685,
+    5943, 5943, 5943, 3052, 3433, 5943, 5943, 405, 5218, 2950, 5943, 5943, 2737, 4629, 3565, 5792, 393, 4528, 5234,
+    2592, 1575, 1168, 3729, 1173, 5107, 5943, 5943, 5943, 1669, 5943, 5506, 5943, 5943, 5943, 5943, 526, 1148, 3700,
+    3809, 2370, 3961, 5943, 5943, 3435, 234, 3396, 5943, 5943, 5943, 5943, 5943, 5943, 5943, 5943, 4146, 5943, 792,
+    5943, 5943, 5943, 5505, 1438, 5002, 2248, 2030, 1727, 713, 5943, 3357, 5628, 598, 3678, 5943, 5943, 4230, 4226,
+    2178, 5943, 5943, 1254, 111, 5634, 3271, 5649, 3522, 3807, 1600, 4811, 4812, 3239, 1839, 3281, 3403, 80, 3349, 4741,
+    2961, 1554, 2108, 4032, 1833, 4294, 1005, 1444, 3237, 5242, 5070, 3362, 394, 4816, 2245, 2261, 3734, 1671, 5150, 51,
+    1091, 4996, 5674, 4474, 3740, 2393, 5865, 1937, 2534, 2303, 3344, 2609, 5943, 91, 5943, 3884, 3909, 2395, 3681,
+    2612, 3735, 4961, 1594, 5592, 3320, 4155, 2817, 2895, 3256, 3857, 5943, 733, 4278, 1108, 5943, 5839, 2422, 2814,
+    2913, 426, 5912, 3316, 1932, 4923, 5553, 1248, 756, 2096, 1791, 858, 1, 1963, 1589, 1749, 2318, 5469, 3029, 358,
+    4462, 4464, 5425, 1999, 3641, 785, 3962, 5077, 621, 5943, 5943, 1650, 4134, 5943, 5943, 5943, 4448, 5943, 5943,
+    5943, 5943, 2886, 4197, 3444, 3560, 3245, 3630, 1611, 991, 5926, 1230, 479, 4672, 2729, 5137, 1400, 5943, 4393,
+    5492, 5943, 2511, 1301, 1118, 5153, 5463, 4395, 5295, 3043, 2616, 606, 4117, 2878, 3286, 3023, 1235, 1013, 1645,
+    2342, 4628, 4621, 1558, 4098, 5702, 5919, 5187, 2798, 5603, 5943, 1324, 3302, 4179, 3902, 4247, 5680, 5604, 5943,
+    4116, 1690, 192, 5943, 4894, 2244, 5519, 4640, 5943, 4049, 4931, 3728, 5943, 475, 5943, 3592, 5706, 5910, 5943,
+    5943, 5943, 5943, 5943, 261, 262, 3063, 5943, 5943, 2019, 1858, 5943, 5943, 2965, 5748, 5943, 5943, 1704, 5943,
+    5943, 5943, 5131, 5943, 3572, 1072, 4387, 2032, 5943, 5943, 5943, 4994, 4035, 2391, 4061, 4233, 3842, 3310, 5740,
+    5100, 5054, 4696, 2141, 3789, 1513, 765, 315, 207, 3850, 3878, 1766, 1825, 1752, 3639, 3640, 1472, 2439, 4515, 945,
+    5609, 3620, 3060, 286, 287, 4960, 2086, 2097, 156, 3774, 3855, 303, 304, 490, 2908, 3688, 5346, 3568, 5111, 3859,
+    1357, 4758, 4008, 544, 3627, 5943, 5943, 5656, 5943, 5943, 5158, 1391, 5943, 5943, 1981, 3556, 5682, 2905, 481,
+    1943, 88, 5683, 1338, 2820, 4577, 2951, 1811, 536, 5638, 750, 2925, 2153, 706, 34, 35, 1121, 3759, 5943, 5943, 5943,
+    5943, 2340, 1516, 914, 2128, 3666, 5585, 5589, 2011, 378, 3567, 3121, 4133, 600, 5780, 5684, 4420, 5943, 515, 5943,
+    5943, 3148, 3446, 1207, 5943, 5538, 3528, 5943, 4892, 5647, 1547, 4668, 5672, 2509, 759, 2630, 5598, 5869, 4020,
+    4842, 2240, 3979, 5450, 4756, 2168, 1764, 2697, 3644, 5544, 3348, 4843, 5301, 5851, 3996, 3997, 5144, 2654, 2478,
+    4597, 4598, 2755, 2922, 4194, 5115, 3025, 3581, 2206, 1389, 897, 4972, 3973, 1043, 3555, 5943, 5943, 1344, 5481,
+    5184, 1303, 3020, 5943, 1366, 5943, 5943, 5943, 5943, 2031, 5385, 5299, 5056, 5943, 5943, 5943, 740, 5943, 5943,
+    5943, 3372, 1901, 3373, 2466, 5447, 3393, 4693, 498, 5943, 5943, 4885, 5943, 1854, 1489, 117, 2203, 1376, 5943,
+    2587, 2617, 200, 1312, 4975, 5943, 4945, 1418, 1419, 5031, 5489, 1034, 2098, 5943, 5943, 5943, 3653, 0, 3875, 2787,
+    806, 4623, 3144, 2827, 2359, 18, 19, 770, 917, 5091, 2526, 4290, 3107, 2213, 3869, 2955, 5943, 5943, 5943, 5943,
+    5943, 5239, 5240, 5943, 4915, 2584, 2450, 1620, 2114, 2304, 4195, 5943, 3638, 2306, 3635, 1597, 2741, 176, 5943,
+    2118, 2016, 3499, 5405, 3726, 4438, 5894, 2855, 404, 4191, 1605, 5943, 2349, 64, 5943, 5943, 5943, 5943, 5943, 5943,
+    5943, 5943, 5943, 5943, 2900, 5303, 5943, 1420, 5943, 5943, 5943, 5943, 1047, 5943, 2956, 5943, 5943, 2513, 5293,
+    5943, 5943, 5943, 2808, 4327, 1220, 5943, 5943, 3351, 3186, 2078, 5943, 4540, 1755, 5562, 319, 4289, 903, 791, 3114,
+    1111, 612, 2293, 4716, 5943, 786, 1434, 141, 4281, 5943, 3775, 995, 5943, 5943, 5943, 5943, 5943, 4344, 769, 5399,
+    5943, 2896, 5943, 5943, 905, 5943, 5943, 5943, 5943, 5943, 2993, 1619, 5943, 5943, 3843, 3609, 2828, 5943, 5943,
+    1681, 5943, 5943, 5164, 5165, 208, 1570, 4102, 120, 4888, 5637, 2287, 154, 5719, 296, 4335, 2687, 3780, 5537, 4697,
+    1965, 652, 112, 3002, 1416, 1417, 5669, 4517, 4328, 1913, 5943, 5943, 5943, 5943, 1722, 5943, 5943, 5943, 5943,
+    4169, 3683, 5943, 5262, 5943, 941, 5886, 4149, 3093, 3094, 3038, 5943, 2499, 5530, 407, 1982, 4872, 3715, 5244,
+    5943, 4933, 5943, 5943, 5943, 2356, 5943, 1803, 5364, 5943, 5943, 160, 926, 4022, 95, 2889, 895, 5943, 5943, 5943,
+    520, 4651, 3732, 5943, 4977, 5943, 1907, 5943, 5943, 5943, 145, 5943, 2360, 3719, 5943, 5943, 4077, 149, 4556, 3276,
+    5943, 1427, 811, 4401, 5943, 5943, 5943, 4110, 3849, 53, 5943, 3861, 547, 5387, 5943, 5943, 5943, 5943, 5943, 5943,
+    5943, 5943, 4229, 307, 836, 308, 5709, 4519, 2861, 5943, 5943, 880, 5725, 5478, 1104, 818, 549, 5901, 604, 4225,
+    4007, 321, 4347, 1204, 620, 2065, 1736, 4219, 4865, 5943, 4096, 1738, 2089, 1397, 5943, 5365, 1814, 224, 5929, 225,
+    3139, 3143, 3669, 766, 3083, 5400, 3663, 1872, 2300, 5943, 5943, 5350, 1529, 5943, 5943, 5943, 2800, 2537, 5943,
+    5943, 5943, 5943, 1873, 5943, 3758, 5943, 5747, 5943, 1544, 2762, 5943, 583, 5920, 1379, 5943, 5943, 5943, 5943,
+    3916, 5943, 5943, 3018, 5494, 5943, 5943, 4750, 1941, 5943, 4560, 4357, 410, 4407, 1495, 3047, 4207, 3172, 5943,
+    332, 5943, 5785, 5943, 5943, 5943, 5943, 3591, 4309, 5943, 497, 4411, 2915, 2731, 5943, 5943, 5943, 5943, 983, 927,
+    3576, 3501, 5509, 1012, 4821, 5630, 1240, 2457, 5798, 4329, 4937, 1076, 5370, 1476, 4581, 3417, 1426, 5526, 1661,
+    3513, 4703, 5105, 678, 3194, 3305, 696, 4704, 5179, 350, 5943, 5104, 2659, 5943, 3618, 1183, 5943, 1039, 3228, 4495,
+    5943, 4965, 1945, 2059, 2061, 5943, 4138, 2037, 4711, 3434, 5943, 5943, 4277, 5943, 3424, 5943, 2897, 5462, 2092,
+    2289, 2190, 5943, 1443, 3906, 5943, 1875, 5943, 3210, 5584, 1112, 5943, 5943, 5943, 4708, 3249, 551, 1759, 573, 512,
+    3886, 2613, 5732, 1479, 1238, 1840, 2696, 2938, 2158, 4823, 3455, 3181, 2196, 4196, 776, 2455, 3604, 243, 5943,
+    3544, 5943, 4745, 1351, 2268, 5943, 5943, 5943, 2894, 5652, 3933, 4674, 1991, 1997, 5943, 5943, 5943, 1836, 1980,
+    1085, 954, 2557, 5943, 1861, 3390, 305, 306, 1461, 669, 1381, 5094, 4178, 5943, 1198, 5548, 3562, 5820, 2195, 2267,
+    1062, 5943, 3574, 5943, 5943, 5943, 904, 4223, 5943, 5943, 5943, 5943, 4531, 5922, 527, 2656, 1905, 3321, 2471,
+    1904, 1769, 3174, 1741, 2498, 1962, 3915, 4587, 2635, 1974, 4463, 4818, 3241, 4746, 5352, 2055, 144, 89, 4176, 5508,
+    1101, 1102, 3537, 4391, 123, 580, 1194, 5657, 2310, 4769, 5640, 3270, 2280, 1156, 3750, 610, 5156, 4690, 2505, 3935,
+    829, 5822, 1946, 548, 5255, 5256, 443, 1583, 4253, 5943, 171, 5664, 5943, 5943, 5943, 5915, 1257, 5124, 3972, 4359,
+    1639, 3297, 2420, 5284, 5285, 83, 4627, 2735, 2782, 4366, 2879, 5685, 1029, 1025, 3508, 2754, 3629, 2311, 4485,
+    4373, 435, 2326, 1986, 4232, 866, 1428, 4343, 4493, 899, 5943, 5292, 5545, 211, 3089, 3090, 212, 4129, 3427, 5930,
+    1500, 5809, 5129, 1225, 4475, 4881, 2137, 4638, 2763, 3696, 1692, 94, 5114, 5454, 5943, 5943, 4431, 5349, 5943,
+    5943, 4610, 1506, 3453, 4057, 1731, 946, 4418, 5943, 5943, 2614, 749, 1436, 1973, 5943, 5943, 5943, 5943, 1531,
+    3164, 1492, 4795, 2373, 2944, 4144, 3595, 5943, 1122, 2033, 5943, 5943, 5943, 4573, 5943, 5943, 5155, 1919, 3566,
+    1172, 1774, 5844, 5943, 3614, 3905, 565, 2266, 952, 5943, 2352, 4518, 5943, 1546, 1747, 2403, 3301, 5083, 5943,
+    3723, 5943, 1315, 4100, 2027, 126, 5345, 5943, 2548, 4444, 430, 5943, 5943, 5943, 5943, 5522, 5943, 823, 5943, 5943,
+    5943, 5943, 5943, 4260, 5943, 2690, 5943, 5943, 4040, 3657, 5943, 5943, 78, 5943, 5383, 2756, 5943, 2791, 3815,
+    2187, 1601, 5943, 4406, 5943, 615, 5943, 5943, 5943, 5693, 5943, 5241, 4834, 1010, 3408, 5943, 5943, 5943, 5943,
+    4018, 5943, 4467, 1346, 1717, 1863, 4563, 4367, 462, 3968, 3744, 3733, 1447, 5695, 4480, 590, 1081, 5212, 3059,
+    1237, 122, 409, 3401, 1305, 4436, 3075, 3945, 2449, 993, 1474, 1090, 2921, 524, 4771, 3546, 3912, 4081, 793, 3159,
+    5841, 1295, 5943, 5943, 455, 617, 2331, 5713, 767, 2442, 2182, 1087, 5943, 5714, 5943, 2835, 5943, 5943, 385, 5943,
+    2067, 5943, 3136, 2074, 2008, 4925, 5943, 2646, 1664, 275, 276, 3786, 959, 4220, 1096, 5943, 5079, 5943, 5728, 4258,
+    5943, 76, 5943, 5943, 5531, 3543, 3879, 3095, 5574, 3004, 5943, 5943, 1297, 5943, 4639, 5943, 1779, 4104, 5943,
+    5035, 5943, 5943, 4781, 506, 5799, 436, 4626, 912, 2408, 3520, 5943, 3913, 5943, 5943, 5943, 4768, 5943, 5943, 4139,
+    5943, 5943, 4091, 4618, 5943, 4427, 2570, 5943, 5943, 5376, 5943, 30, 517, 1771, 5017, 31, 3081, 3685, 288, 289,
+    3797, 1020, 4849, 3319, 4142, 2917, 309, 1409, 1410, 310, 4074, 3505, 3016, 2064, 2774, 5943, 5766, 997, 3398, 5075,
+    1065, 5943, 5943, 4652, 5943, 5943, 5943, 4859, 5943, 2454, 4520, 66, 5943, 881, 5012, 119, 5943, 5943, 5943, 5772,
+    5943, 5452, 3606, 5943, 5943, 5943, 5943, 5943, 5943, 5943, 5943, 966, 4271, 2330, 855, 3395, 5291, 5943, 2075,
+    5943, 5943, 4817, 5943, 5274, 4784, 4099, 3254, 3171, 107, 2265, 5943, 735, 5943, 5943, 4208, 5943, 3684, 5895,
+    4404, 4004, 602, 2550, 4645, 5744, 5943, 5943, 5493, 5943, 5943, 4372, 5943, 5573, 5943, 5943, 5943, 5943, 1117,
+    764, 2133, 5943, 874, 5122, 1084, 5123, 902, 2006, 4320, 4272, 2992, 3287, 318, 2833, 5224, 4635, 3736, 834, 3050,
+    5805, 3919, 425, 955, 1302, 4212, 1283, 4916, 4932, 4898, 1154, 5009, 4911, 2297, 5382, 5312, 967, 5004, 5943, 5943,
+    5943, 5943, 5943, 5943, 4472, 2780, 5943, 5943, 5943, 4973, 3777, 4946, 3122, 3594, 761, 5943, 1608, 5943, 5943,
+    5943, 1144, 1145, 4536, 1679, 572, 5715, 643, 2716, 2837, 4317, 3989, 3437, 1374, 4948, 1450, 2510, 5864, 1328,
+    2924, 4969, 3118, 1897, 38, 39, 656, 657, 3911, 3664, 5586, 1521, 1561, 3155, 4958, 864, 576, 4664, 5043, 2976, 546,
+    4824, 4511, 3536, 5335, 3124, 1215, 846, 1847, 421, 3382, 4451, 1236, 4166, 4706, 2117, 5943, 975, 5943, 5943, 2091,
+    5943, 5931, 3134, 5943, 5943, 5943, 5722, 5943, 3065, 571, 4148, 2351, 1586, 4034, 3881, 4585, 1196, 5853, 4421,
+    4458, 4304, 1754, 168, 1912, 1260, 2432, 2802, 2193, 5943, 5943, 5943, 5615, 5943, 5943, 5525, 5943, 3074, 5943,
+    2285, 5943, 2188, 5141, 5943, 5943, 5914, 1716, 3500, 5848, 3698, 5943, 5206, 5655, 3754, 5943, 5943, 5372, 5943,
+    5180, 5181, 3069, 3699, 1114, 3150, 1739, 2769, 5943, 131, 1915, 4072, 458, 3677, 4408, 5943, 3527, 4987, 3264,
+    2023, 5694, 5943, 5943, 3291, 5943, 5943, 778, 5943, 118, 5943, 3036, 5943, 3131, 5943, 853, 4114, 4041, 137, 3710,
+    3983, 3123, 2386, 5943, 2357, 5943, 5943, 5943, 4926, 5943, 1008, 5943, 3447, 4570, 883, 2189, 2102, 663, 5386,
+    5479, 216, 4815, 3354, 353, 4301, 2996, 3830, 3959, 468, 1042, 5588, 5037, 3895, 2185, 3687, 5888, 781, 1083, 4356,
+    3207, 1851, 1896, 5943, 5943, 3183, 5943, 5943, 5943, 2524, 5943, 397, 5347, 5943, 4001, 242, 3077, 3767, 5943,
+    5943, 5943, 5943, 5943, 5658, 5529, 5943, 1874, 5943, 5943, 5943, 5943, 4738, 5943, 5943, 3517, 4409, 1469, 270,
+    271, 3787, 5726, 340, 3853, 5829, 4949, 538, 3509, 2652, 1665, 5898, 2933, 2216, 3409, 5338, 911, 495, 5943, 1520,
+    5943, 1205, 1275, 5943, 5943, 5943, 3313, 634, 246, 4726, 5943, 2209, 4644, 5943, 1228, 3197, 252, 253, 5767, 3072,
+    685, 4868, 3686, 3824, 5943, 5943, 5943, 5943, 5602, 1123, 172, 5032, 70, 695, 5398, 5943, 5943, 5943, 3430, 5943,
+    3662, 5627, 2224, 5943, 5943, 5943, 5943, 3483, 2753, 5943, 832, 5943, 2684, 5510, 1003, 1916, 416, 5183, 4572,
+    5943, 5943, 5943, 5943, 5943, 5943, 5943, 5943, 5943, 5022, 2914, 2119, 5943, 1707, 5943, 1125, 5605, 5943, 5943,
+    4633, 1349, 3199, 5943, 5943, 5943, 5943, 5943, 4332, 5943, 3135, 644, 5943, 5943, 1992, 1696, 1838, 5527, 3580,
+    851, 5222, 5943, 4542, 4543, 4119, 5943, 5943, 1582, 5934, 1809, 4662, 5943, 2525, 1289, 4132, 2670, 5943, 3374,
+    5427, 5943, 2851, 5943, 3412, 336, 5770, 5502, 2274, 2398, 1760, 4016, 3109, 3300, 540, 4997, 2048, 4755, 2024,
+    3062, 854, 2126, 5442, 4238, 1016, 4727, 5943, 623, 5887, 3117, 209, 210, 2436, 1613, 2661, 2772, 2492, 5046, 3201,
+    5388, 3588, 1581, 4140, 1889, 4861, 2291, 4924, 4316, 5943, 2590, 2559, 5668, 400, 5735, 1234, 2132, 5697, 5758,
+    3628, 771, 2626, 4015, 3006, 1627, 2497, 3383, 2589, 633, 3180, 1319, 1568, 4658, 196, 4912, 116, 5943, 5943, 5943,
+    5759, 5943, 4797, 3920, 4500, 1184, 4879, 1369, 3617, 2396, 4310, 2720, 4494, 5457, 2786, 5943, 374, 5943, 5943,
+    5943, 5943, 5943, 2622, 5943, 5943, 5943, 5943, 5943, 956, 5943, 1415, 1128, 5943, 5943, 968, 862, 4413, 4414, 1822,
+    5943, 758, 5943, 5943, 2657, 4177, 2831, 3690, 5943, 5943, 5943, 1883, 5943, 3976, 5943, 5943, 1232, 2775, 5943,
+    5943, 5943, 1830, 4576, 5943, 5943, 3889, 220, 221, 842, 5943, 5943, 4510, 5943, 5943, 3399, 4529, 1891, 2552, 5581,
+    5423, 5943, 5943, 1823, 311, 312, 3422, 5092, 5093, 47, 1022, 1246, 4315, 3634, 777, 4206, 5943, 5784, 3882, 5871,
+    3551, 3355, 4419, 4461, 5136, 4083, 4274, 1280, 3440, 4352, 5532, 780, 49, 534, 4011, 1045, 5438, 3756, 861, 5943,
+    5943, 5943, 5943, 5943, 5943, 5943, 4941, 5943, 5943, 3907, 2807, 5943, 5943, 3312, 5307, 1931, 5146, 2430, 3216,
+    5943, 5943, 1153, 4308, 3438, 4548, 5943, 5943, 382, 1387, 4862, 5943, 4428, 2745, 5943, 5943, 2797, 1680, 3908,
+    5943, 5943, 5943, 1902, 4917, 5943, 2459, 5943, 4159, 2809, 5943, 2440, 4701, 1743, 4402, 2664, 2479, 4202, 5943,
+    2063, 5943, 3402, 1923, 463, 3720, 601, 5943, 5402, 3552, 197, 661, 2005, 5355, 5245, 2710, 5943, 2, 3, 5943, 5943,
+    4981, 2931, 5560, 3619, 5943, 5943, 1287, 2214, 4927, 5145, 5943, 931, 709, 4904, 1451, 2482, 3984, 1672, 3800,
+    3370, 1527, 3371, 3436, 4490, 3275, 389, 4930, 1802, 1844, 5366, 4005, 5761, 317, 3149, 3151, 3152, 2997, 511, 2547,
+    2380, 679, 4353, 3771, 4111, 1718, 2353, 1133, 1146, 3263, 5112, 5943, 5943, 3226, 1798, 5943, 641, 5943, 5943,
+    1475, 5943, 4441, 2693, 2819, 3922, 1776, 5943, 5943, 5943, 1066, 4591, 5801, 1180, 1497, 3015, 1985, 1127, 2263,
+    5943, 5943, 5943, 5943, 5943, 1431, 5943, 3082, 5943, 822, 923, 5943, 5943, 1446, 5943, 5943, 5943, 5943, 5724,
+    1924, 3220, 4935, 3901, 5216, 5943, 2177, 5233, 5587, 5471, 489, 1626, 2911, 5404, 4185, 5943, 4630, 5943, 5943,
+    2885, 3654, 5943, 5943, 5943, 5943, 5943, 5943, 4300, 3246, 5943, 5943, 5943, 5943, 5943, 2077, 1253, 2576, 5855,
+    1596, 5943, 240, 3126, 5943, 5943, 5943, 5943, 5943, 5943, 5943, 1218, 5943, 5943, 5648, 1734, 247, 478, 2183, 5501,
+    2366, 5943, 5943, 5041, 3569, 4217, 5812, 3673, 992, 3170, 1187, 2660, 5943, 5943, 5943, 5943, 1689, 651, 608, 3007,
+    2767, 5422, 1375, 4246, 4928, 4537, 1864, 4656, 5862, 5426, 1290, 1593, 72, 4059, 5717, 5406, 4055, 5943, 5943,
+    4876, 5943, 5943, 5943, 5943, 3322, 5943, 5943, 2374, 2431, 5943, 5943, 3324, 5007, 2912, 5190, 5943, 5943, 5943,
+    5943, 5943, 5943, 5943, 5943, 5943, 4600, 5943, 277, 278, 539, 5776, 1535, 1067, 4333, 454, 1539, 1364, 1413, 1414,
+    1926, 3768, 164, 239, 411, 4251, 163, 2565, 3067, 256, 3478, 5194, 2706, 3981, 2768, 1685, 1612, 5552, 2041, 2721,
+    2121, 2138, 134, 2069, 3765, 74, 4160, 4469, 5943, 5691, 5943, 5837, 5943, 5943, 5943, 423, 5576, 5327, 4158, 1165,
+    1242, 4713, 5943, 1276, 5943, 1354, 4893, 1309, 1534, 1057, 2934, 429, 3277, 5943, 5943, 248, 249, 1077, 5943, 5943,
+    3032, 3467, 5003, 5943, 5943, 5943, 5943, 1115, 5943, 5943, 5943, 357, 5742, 5601, 5943, 5943, 4637, 5943, 4724,
+    3044, 3804, 1482, 4242, 5810, 4980, 2299, 4853, 5943, 5943, 5943, 5943, 5943, 1866, 2036, 2691, 5943, 5943, 5943,
+    2475, 986, 4914, 825, 5868, 5228, 4145, 1614, 3176, 3173, 5943, 5943, 5943, 3420, 5236, 213, 1209, 299, 300, 222,
+    223, 1666, 3839, 5330, 672, 2151, 3068, 5943, 2708, 803, 5943, 5943, 2847, 2191, 5943, 5943, 1048, 4648, 2282, 5040,
+    4487, 2919, 4376, 5074, 5016, 139, 3554, 5188, 5495, 2057, 333, 5063, 3770, 5148, 5943, 5943, 217, 218, 1007, 5943,
+    535, 4605, 1761, 5458, 4248, 5943, 3873, 5943, 3995, 5943, 5943, 5943, 5943, 2642, 5943, 5943, 4381, 4880, 1493,
+    4199, 4200, 3593, 729, 1491, 1740, 2296, 3965, 5943, 3840, 5943, 2021, 4920, 754, 5943, 5943, 5943, 356, 970, 5696,
+    4963, 3852, 5782, 5943, 5943, 5943, 406, 5943, 5943, 5943, 5943, 3605, 4974, 4557, 4794, 424, 4661, 953, 5341, 2110,
+    132, 152, 5943, 4432, 513, 1278, 2487, 5943, 5943, 5943, 5419, 2813, 5439, 1804, 4615, 4066, 5673, 3831, 5854, 848,
+    36, 37, 3471, 2818, 167, 3956, 75, 5834, 3097, 3213, 4073, 5943, 1018, 660, 372, 1682, 4456, 5943, 5779, 5943, 5943,
+    4153, 1483, 5943, 937, 5943, 5943, 5943, 4078, 5943, 1966, 2365, 4216, 5221, 3061, 4882, 3014, 2662, 4326, 5943,
+    528, 5623, 4873, 5845, 3899, 2348, 114, 5653, 5921, 4802, 712, 3028, 4364, 3870, 5408, 191, 5943, 2441, 1993, 2539,
+    1888, 5943, 1691, 1129, 3279, 5943, 2839, 1947, 3100, 496, 3586, 658, 3211, 3250, 1792, 5708, 5378, 2421, 837, 3702,
+    5095, 359, 5943, 2531, 3867, 5885, 5943, 476, 5943, 3998, 2489, 1199, 491, 5943, 5943, 5943, 4288, 2361, 584, 5119,
+    4325, 5943, 5943, 5826, 2255, 3051, 5943, 5943, 4967, 5943, 3054, 1089, 5943, 5838, 5286, 2229, 5943, 2316, 5943,
+    4094, 3713, 3599, 3380, 5500, 3087, 5415, 4896, 4978, 5943, 5943, 5943, 323, 2135, 4851, 3893, 2307, 2739, 189,
+    5943, 5943, 5170, 2887, 2257, 5178, 3727, 3773, 3749, 5943, 4793, 5943, 4789, 57, 5082, 2583, 2347, 1826, 1402,
+    1405, 5943, 5943, 1480, 3205, 465, 2558, 4354, 4677, 3946, 4093, 3795, 2875, 3033, 3108, 193, 5943, 1105, 2337,
+    2308, 1673, 5943, 2496, 265, 5943, 5943, 5943, 5943, 3454, 5943, 5943, 5943, 5943, 693, 3336, 5943, 5591, 5943,
+    5943, 5943, 1914, 3477, 5943, 5943, 5943, 5943, 4171, 3680, 790, 1217, 3177, 4218, 5610, 5943, 5943, 5943, 1373,
+    1372, 1388, 5943, 5943, 5943, 5943, 266, 267, 1630, 5943, 5943, 2920, 596, 3858, 3880, 1433, 3168, 1347, 5203, 5943,
+    5943, 5943, 3358, 2236, 5943, 3709, 3558, 5943, 2043, 5943, 5943, 5943, 2695, 4575, 3792, 5943, 5943, 5943, 1625,
+    2974, 5261, 1398, 5943, 5943, 5943, 1939, 2703, 5943, 5566, 3204, 5670, 2197, 5021, 5943, 5943, 798, 3397, 238,
+    3587, 5166, 3428, 5943, 5943, 232, 233, 5943, 5943, 5943, 1528, 4006, 3498, 1944, 3529, 4025, 1879, 5925, 4547, 697,
+    698, 4390, 5157, 667, 637, 2165, 5943, 5943, 5943, 2362, 5943, 5943, 3621, 103, 4482, 5943, 1273, 2701, 2144, 1119,
+    1392, 5943, 5863, 3487, 597, 3991, 3762, 545, 1540, 4803, 3232, 5943, 5943, 3137, 5943, 5268, 5943, 5943, 5943,
+    3752, 5943, 5943, 1748, 4222, 5943, 5192, 5943, 5943, 5636, 5491, 5943, 4682, 5599, 5943, 5943, 5943, 5943, 5943,
+    5943, 1831, 671, 5441, 5943, 5943, 5943, 5943, 4286, 1843, 3532, 3533, 1263, 2975, 5329, 157, 3716, 5943, 2863,
+    3141, 4525, 3163, 5943, 2358, 5943, 3295, 1507, 3585, 5138, 1849, 5139, 3538, 5879, 344, 2186, 4051, 3327, 2199,
+    2984, 2325, 5300, 5943, 3999, 4095, 4856, 5943, 4319, 4617, 3030, 5582, 4174, 3540, 2761, 5393, 5943, 2301, 1508,
+    3304, 1282, 2650, 2237, 2250, 1258, 2264, 3731, 4740, 4918, 5373, 5943, 1327, 5943, 1023, 1092, 3632, 5943, 5943,
+    1553, 5943, 5943, 5943, 3944, 5943, 5943, 5943, 5534, 5943, 2567, 5515, 5943, 5943, 5943, 5943, 1899, 4951, 5943,
+    2880, 5943, 561, 5943, 5943, 5633, 5943, 386, 5943, 2848, 5943, 4214, 5943, 5943, 5943, 2541, 5943, 503, 961, 5943,
+    5943, 5943, 5943, 5943, 5720, 5943, 2562, 4437, 721, 3502, 1393, 5943, 1110, 5266, 5943, 4761, 5583, 4509, 687,
+    1086, 4953, 450, 1623, 376, 715, 3512, 4837, 3251, 5943, 675, 871, 3259, 1255, 1185, 1040, 4900, 5943, 1576, 182,
+    5943, 683, 2239, 3465, 5943, 5943, 5943, 4950, 5943, 5943, 2415, 2419, 2945, 890, 5943, 2824, 1519, 4807, 4808,
+    4939, 1541, 5943, 5557, 4362, 1563, 5161, 2028, 2804, 2147, 4971, 3360, 4721, 2556, 2970, 5943, 4959, 5943, 5943,
+    5943, 5943, 5943, 1499, 4594, 5830, 3637, 3737, 5943, 647, 5314, 5334, 1580, 2796, 5943, 5943, 5943, 4790, 5943,
+    817, 3950, 2595, 4442, 5460, 5272, 5778, 5353, 5750, 1998, 3244, 2770, 5418, 3064, 3914, 4009, 5943, 1893, 1298,
+    5943, 3184, 3431, 5943, 1465, 5943, 5943, 5943, 5751, 5943, 5252, 5253, 5551, 4814, 2953, 5943, 4901, 5943, 2686,
+    5943, 5835, 5943, 5943, 5943, 4244, 1900, 5943, 4039, 3132, 5006, 5047, 849, 5943, 5781, 4003, 3739, 1922, 1762,
+    5797, 203, 5607, 5367, 4276, 4038, 3993, 4778, 2354, 1935, 1130, 2040, 1193, 2952, 5340, 3942, 1356, 4417, 3778,
+    5943, 4213, 5943, 2175, 933, 5467, 190, 2528, 1780, 1226, 4526, 5943, 5943, 1653, 5943, 5943, 5943, 5943, 5943,
+    5407, 3429, 5507, 2971, 5943, 2746, 2072, 5943, 1390, 4293, 4384, 1052, 4143, 2667, 4606, 1720, 441, 3986, 4399,
+    3235, 3367, 86, 4952, 5665, 2658, 136, 5943, 5943, 3753, 3854, 1406, 124, 1706, 4478, 3365, 4422, 3679, 5943, 5943,
+    4398, 4772, 5943, 2994, 1068, 1842, 5943, 3573, 5938, 3761, 908, 2066, 5943, 5943, 932, 4063, 5943, 4345, 2070,
+    2865, 752, 4433, 1852, 5679, 4446, 522, 4477, 559, 3553, 3788, 611, 5470, 5308, 3070, 5389, 5474, 5160, 2682, 5542,
+    5036, 2142, 1071, 1163, 4735, 1378, 2747, 1134, 1940, 4228, 4828, 5943, 2277, 4215, 5480, 5482, 2465, 5943, 5943,
+    847, 5943, 5943, 3337, 4830, 1486, 470, 3898, 2378, 5943, 5943, 5943, 5943, 5943, 5943, 2050, 5943, 5943, 5943,
+    5943, 5943, 5943, 418, 5943, 5943, 1321, 5943, 5943, 5331, 5943, 2490, 3952, 2341, 1983, 1512, 4551, 4552, 896,
+    3329, 2545, 3891, 4089, 1765, 337, 3868, 5943, 3783, 5943, 5943, 5943, 5743, 4673, 2555, 5213, 5214, 1421, 4513,
+    4820, 432, 838, 843, 5943, 5860, 2998, 1968, 5686, 2106, 5943, 5943, 5943, 5246, 5247, 5068, 2977, 2313, 2572, 5943,
+    259, 260, 5374, 401, 3425, 174, 4595, 5943, 5943, 5028, 5943, 5943, 5943, 5943, 3359, 5943, 1552, 5943, 5943, 5943,
+    5517, 3011, 4684, 2507, 4688, 980, 4678, 5943, 5943, 3876, 5943, 4455, 4002, 5020, 5943, 5858, 5943, 5943, 464,
+    5932, 5449, 5943, 5777, 1050, 2269, 5943, 1910, 5943, 5943, 5564, 2025, 1571, 595, 763, 805, 1987, 5173, 2776, 1151,
+    4625, 3330, 1142, 2718, 3449, 5445, 4654, 4685, 4940, 5064, 5943, 5943, 5943, 5943, 5943, 5917, 2979, 5943, 5943,
+    5943, 5943, 1917, 814, 5210, 5943, 5943, 5943, 5943, 1890, 746, 5106, 1403, 5943, 988, 779, 5375, 585, 2704, 4337,
+    3549, 2866, 5117, 2281, 4370, 5943, 5943, 2518, 5451, 5943, 5943, 5943, 4501, 5052, 2101, 5943, 2675, 722, 3468,
+    2123, 1053, 4831, 5943, 2001, 5943, 5943, 3307, 1956, 3219, 5943, 5943, 2968, 5943, 5943, 5943, 504, 5943, 1186,
+    297, 298, 3519, 5325, 5763, 2334, 686, 4919, 4863, 5943, 2400, 5943, 5943, 5943, 5943, 5943, 5943, 5943, 3751, 5943,
+    5943, 5943, 5276, 5412, 3491, 760, 1429, 5943, 2586, 4084, 5943, 1670, 8, 5558, 9, 301, 302, 4069, 4825, 5342, 98,
+    703, 5943, 4029, 5775, 5943, 3474, 5943, 5943, 3675, 2516, 2049, 3458, 1314, 4845, 5943, 971, 4348, 5943, 5943, 898,
+    5943, 3247, 5943, 1481, 5943, 5943, 4291, 5943, 5943, 5368, 5943, 5943, 5943, 5943, 5943, 2192, 772, 5718, 1219,
+    5943, 5943, 5943, 5051, 5943, 5260, 5943, 2799, 2161, 5943, 1832, 5943, 886, 5943, 5943, 5943, 5943, 3161, 4555,
+    4874, 4101, 5943, 5943, 5943, 5943, 5943, 5943, 5061, 1251, 2088, 2668, 2148, 2577, 2007, 1778, 4646, 2928, 5943,
+    5223, 342, 5943, 5411, 1592, 4966, 5237, 5943, 5943, 3486, 3847, 5943, 5943, 3404, 2319, 5943, 5943, 4775, 5943,
+    5943, 5943, 5943, 5943, 4665, 5943, 4019, 3988, 5943, 5943, 3860, 3667, 5943, 2433, 5943, 4062, 5833, 4443, 831,
+    4733, 4017, 3764, 5943, 396, 4292, 1159, 127, 3129, 3120, 5943, 972, 3460, 1059, 3482, 5086, 900, 5477, 5062, 5688,
+    5380, 5152, 4720, 5943, 4642, 5162, 2228, 5311, 5943, 1175, 5297, 1189, 1609, 3340, 2173, 4602, 5943, 5943, 5943,
+    2564, 3722, 5943, 415, 4318, 1961, 1394, 4877, 4048, 5897, 5943, 5943, 1201, 5943, 5943, 5943, 5943, 5943, 3274,
+    1006, 1560, 3338, 1462, 879, 3084, 3265, 3802, 4836, 2112, 4737, 5943, 1002, 4182, 5943, 5943, 5943, 5943, 3495,
+    1542, 452, 5943, 5943, 5943, 3948, 1660, 5371, 3198, 4307, 919, 691, 2607, 2328, 3306, 1131, 161, 5943, 1265, 962,
+    5859, 5084, 5085, 570, 4541, 5328, 5870, 4424, 4425, 4426, 2788, 4921, 2156, 1702, 153, 5430, 5943, 5943, 5943,
+    1259, 4496, 5705, 1054, 5358, 2290, 345, 5943, 5943, 2385, 5943, 5943, 5943, 3930, 5943, 5943, 5943, 377, 5803,
+    5943, 2563, 5943, 5943, 4303, 5943, 1456, 5943, 3480, 5116, 1807, 2401, 4907, 5943, 4964, 5108, 486, 3504, 3415,
+    1454, 1359, 2467, 4553, 3012, 990, 605, 4799, 826, 5943, 530, 1882, 2647, 1027, 368, 434, 3897, 50, 3953, 1038,
+    3541, 994, 2990, 1526, 4957, 3823, 1368, 4592, 943, 3790, 800, 1423, 268, 269, 5343, 3386, 5676, 2832, 2959, 4193,
+    951, 550, 2671, 5943, 440, 3418, 5943, 4676, 5943, 1549, 5943, 5943, 5943, 2619, 2379, 1015, 5943, 3034, 5943, 5943,
+    3645, 5121, 482, 466, 1458, 106, 5943, 5943, 5943, 5943, 5943, 2288, 4037, 5850, 3133, 5752, 4190, 1877, 4283, 322,
+    2389, 998, 3185, 4613, 4614, 1667, 3328, 5279, 2020, 2637, 5362, 2678, 4378, 2734, 4052, 2888, 748, 4279, 140, 4128,
+    5943, 5943, 5943, 5943, 4810, 5943, 4379, 3516, 4152, 5943, 5943, 2329, 5943, 5943, 4045, 3561, 4266, 5296, 2344,
+    5554, 4819, 3903, 699, 420, 2068, 2891, 4829, 2305, 2618, 5889, 1158, 5943, 1649, 5943, 2676, 5943, 639, 5943, 5943,
+    3106, 1674, 5943, 5943, 5943, 1329, 5791, 4361, 3147, 1588, 5197, 5030, 5326, 2533, 3836, 1211, 2700, 4021, 1262,
+    1728, 2870, 1058, 3459, 473, 5943, 5943, 502, 5369, 5918, 3571, 2427, 1599, 121, 4121, 4492, 4929, 1989, 1927, 4715,
+    1617, 3165, 4400, 5943, 5943, 4848, 5943, 3743, 5943, 5943, 5943, 4523, 5943, 5943, 5549, 924, 1975, 5943, 795,
+    3384, 3078, 2180, 918, 2759, 731, 860, 5448, 1268, 5943, 5943, 1724, 5943, 5943, 4112, 5943, 2429, 5943, 3760, 775,
+    3115, 1514, 5943, 5943, 757, 856, 5943, 1049, 5749, 5943, 3655, 562, 2790, 1222, 61, 987, 3112, 587, 5943, 2155,
+    3481, 3238, 3476, 5943, 5662, 5943, 2698, 5416, 1176, 5943, 5943, 4236, 2382, 5943, 5943, 5943, 5943, 2013, 5563,
+    2779, 5943, 467, 2593, 5943, 4736, 1051, 3813, 4578, 4579, 316, 373, 1214, 4833, 1819, 4470, 2076, 3209, 2858, 543,
+    5485, 1468, 3600, 4122, 73, 1206, 1343, 5099, 4314, 5943, 5943, 1261, 1017, 1751, 5049, 2372, 3793, 4416, 4561,
+    4562, 2295, 165, 3461, 28, 29, 2317, 1783, 2081, 2673, 2853, 3695, 3738, 4757, 870, 3936, 5185, 5943, 4734, 5533,
+    3665, 5943, 4956, 5943, 5943, 4687, 5943, 5943, 5943, 5943, 5943, 5943, 5943, 5943, 5646, 5943, 1181, 1464, 4380,
+    5943, 5943, 700, 1841, 701, 4423, 4322, 4695, 102, 3284, 1200, 5536, 711, 2930, 2969, 4127, 4198, 349, 5310, 5943,
+    5943, 3334, 5943, 1138, 1139, 4489, 5941, 5943, 5943, 5943, 3400, 5943, 5943, 2715, 408, 3746, 1657, 5943, 5943,
+    3057, 783, 976, 2170, 5080, 5081, 5473, 5258, 5259, 3691, 5475, 1445, 92, 2681, 5943, 1448, 5943, 877, 5943, 5943,
+    5943, 5943, 4167, 2723, 5943, 2017, 3088, 537, 3918, 3289, 2042, 2898, 3872, 2740, 5943, 263, 5572, 264, 5721, 5773,
+    3299, 3941, 5578, 1136, 2095, 613, 5943, 5943, 2688, 1126, 5943, 665, 2026, 2456, 5943, 1640, 4991, 4835, 636, 2578,
+    5943, 1644, 488, 3846, 4486, 2251, 4532, 1763, 2363, 1033, 3153, 5943, 2610, 4589, 4405, 5943, 5943, 3917, 1435,
+    5943, 5943, 2157, 4897, 1744, 1362, 2575, 4031, 4730, 5943, 5943, 1135, 2292, 5101, 4719, 5943, 5943, 5943, 5943,
+    5943, 5943, 5943, 5943, 5453, 3257, 5943, 4234, 5464, 5927, 1063, 5802, 934, 4995, 4936, 4852, 1694, 2838, 4516,
+    3416, 2948, 3694, 727, 3825, 789, 5943, 5943, 5943, 2217, 5943, 2946, 4209, 5943, 3013, 5943, 5943, 5903, 2327,
+    4700, 5943, 815, 5943, 569, 5057, 2298, 1502, 2588, 5087, 5943, 4287, 5943, 5943, 5943, 5943, 5943, 5943, 3406,
+    5943, 5943, 5943, 5943, 5943, 5420, 5943, 5943, 5943, 5943, 4090, 4026, 5943, 5943, 1080, 5943, 5943, 1079, 5943,
+    3648, 4955, 4135, 5943, 5943, 1333, 1377, 5943, 5943, 5943, 5943, 1555, 5357, 5359, 509, 1245, 3931, 5753, 2387,
+    5126, 5127, 355, 3924, 4473, 5313, 1161, 1799, 3105, 2978, 4392, 4262, 603, 4249, 2738, 3111, 2862, 2883, 5023,
+    5943, 5943, 5943, 5943, 5943, 5567, 5943, 3230, 5943, 5348, 5249, 5250, 5943, 3559, 5943, 4549, 1892, 4550, 5219,
+    5220, 3494, 2639, 4539, 4998, 5943, 2596, 1532, 1477, 579, 3828, 1885, 4231, 3154, 5943, 5556, 5760, 5088, 2000,
+    5943, 5520, 5654, 4608, 1955, 2625, 5943, 1395, 3048, 5943, 5943, 4922, 4259, 4986, 5943, 3985, 4609, 5257, 5943,
+    5943, 2014, 575, 1887, 5238, 4787, 1860, 3414, 3488, 1320, 2159, 1191, 3377, 3378, 3203, 2080, 2233, 4141, 5294,
+    5943, 5943, 5943, 5943, 5849, 4744, 5943, 4358, 5503, 5943, 5943, 5943, 5943, 5943, 5943, 5943, 5943, 5943, 5943,
+    5943, 2215, 417, 3311, 1951, 5600, 5621, 2923, 2093, 2486, 5433, 4204, 1304, 5943, 5943, 5943, 5943, 1868, 5943,
+    5528, 3862, 4499, 4632, 1757, 1578, 718, 3283, 5514, 5943, 5202, 5943, 5943, 5943, 5943, 5943, 5943, 3511, 3240,
+    4180, 3814, 4087, 1264, 1964, 4832, 4770, 5746, 1348, 1715, 3450, 1202, 3583, 2874, 4033, 5620, 2843, 5825, 5019,
+    4671, 5394, 2152, 3590, 1463, 185, 1867, 3335, 2523, 5880, 4264, 3582, 5298, 5836, 3298, 738, 5943, 3563, 5943,
+    3056, 5943, 2585, 2957, 1676, 1137, 4855, 5943, 5089, 2936, 773, 5943, 439, 1920, 2508, 5659, 2333, 4346, 4118,
+    5663, 2218, 1511, 5561, 5943, 5943, 3925, 22, 2574, 835, 3035, 23, 3524, 1340, 5597, 1424, 1655, 1174, 3073, 202,
+    820, 1688, 5168, 5169, 5872, 4582, 2615, 4351, 5904, 431, 1473, 2056, 2134, 2139, 2094, 10, 11, 3231, 4607, 5943,
+    3110, 5066, 5650, 4689, 2140, 5029, 1188, 3742, 5940, 807, 5943, 5943, 4275, 4397, 59, 674, 1796, 1622, 1787, 5103,
+    984, 3625, 1933, 1350, 1107, 3375, 3376, 3832, 4564, 828, 732, 677, 2801, 2821, 5882, 2125, 151, 4324, 3975, 12, 13,
+    5899, 1335, 67, 108, 1768, 3646, 4192, 5943, 5943, 4471, 5943, 5943, 5890, 5943, 5943, 5943, 1789, 5943, 3253, 5943,
+    5943, 5943, 5943, 5943, 5943, 1637, 5943, 2484, 4173, 3128, 6, 7, 1990, 3462, 5072, 4905, 2644, 2794, 5943, 5943,
+    5943, 5943, 5943, 5943, 5943, 5943, 1060, 5943, 4783, 1880, 5641, 4468, 5943, 5923, 4841, 1646, 4903, 3045, 889,
+    5943, 2830, 5711, 2714, 2711, 5754, 5943, 5395, 5033, 2736, 2468, 1577, 557, 2939, 5943, 5045, 1203, 5943, 5943,
+    5943, 5943, 5943, 4410, 5943, 5943, 3419, 4350, 4902, 3463, 5511, 81, 5073, 1239, 4047, 3405, 133, 5943, 5943, 3888,
+    3717, 5943, 3947, 5943, 1437, 5943, 5943, 884, 1746, 5943, 5943, 1533, 804, 2877, 5943, 1767, 5943, 5943, 2937,
+    1662, 3071, 1256, 4544, 4545, 1953, 3195, 1488, 1496, 3837, 2345, 3182, 2822, 3763, 5645, 5795, 3017, 3361, 4667,
+    4580, 3192, 5174, 4235, 3622, 2483, 5823, 2418, 4718, 4014, 5943, 5943, 2834, 916, 796, 4183, 2722, 5943, 5943,
+    3542, 2309, 1518, 339, 5727, 5390, 618, 1332, 1221, 1216, 1954, 1602, 4377, 5189, 2271, 5943, 5943, 5943, 1898,
+    5846, 3964, 5943, 2726, 3039, 5943, 5943, 2105, 5943, 5943, 5943, 3805, 2167, 5943, 5943, 5943, 5943, 5943, 5893,
+    3119, 4257, 2884, 129, 2458, 5943, 1227, 4306, 4749, 5196, 510, 845, 5943, 5943, 5943, 1921, 3356, 2527, 5943, 3904,
+    5014, 5943, 1928, 5771, 3785, 4854, 1810, 5875, 5590, 5943, 285, 5943, 5943, 1758, 3564, 5113, 3285, 4754, 4284,
+    5943, 5943, 5943, 325, 4559, 5512, 4042, 2411, 2655, 4786, 5916, 521, 5059, 4388, 3856, 5943, 3142, 413, 3937, 5401,
+    403, 5643, 250, 1190, 5943, 5943, 5943, 5943, 5943, 872, 352, 1095, 5943, 5943, 5943, 5943, 5943, 5943, 5943, 2220,
+    5943, 85, 2645, 1647, 5828, 3086, 4725, 726, 3224, 5943, 5943, 5943, 5943, 125, 4620, 2231, 753, 1853, 5677, 3670,
+    5943, 5351, 4465, 2124, 2980, 2247, 5943, 5943, 1633, 2665, 2506, 4565, 4566, 1000, 48, 384, 5354, 3531, 3535, 882,
+    1224, 1562, 5943, 4186, 5943, 5943, 5943, 5943, 5943, 5943, 427, 5130, 5943, 625, 4826, 5928, 3290, 4504, 3010,
+    2414, 474, 646, 2276, 4590, 1950, 5421, 4189, 1449, 630, 5943, 5943, 485, 2795, 1487, 5943, 5943, 5943, 3332, 371,
+    2632, 3268, 5324, 3896, 1794, 1629, 4942, 5943, 5943, 5943, 3101, 3623, 4681, 5109, 2426, 4982, 5943, 5487, 437,
+    3258, 4270, 2544, 1267, 5902, 5332, 2312, 2864, 5692, 2284, 4527, 1911, 1816, 4976, 5281, 5282, 367, 2084, 2829,
+    2683, 2648, 4267, 2469, 2623, 3426, 390, 5568, 1455, 257, 2988, 801, 1949, 42, 43, 3318, 2530, 4827, 2210, 2226,
+    3341, 3958, 1386, 1827, 1035, 797, 5943, 2335, 5943, 5943, 5943, 5943, 4705, 2926, 5410, 4596, 3668, 1459, 4660,
+    2816, 366, 3829, 5943, 5943, 5943, 2286, 5943, 2560, 4050, 2982, 1735, 184, 4368, 4162, 5195, 5943, 5943, 5521,
+    5943, 2252, 3445, 5678, 3791, 5943, 1638, 4860, 5943, 5943, 5516, 5943, 5943, 5943, 5943, 3943, 944, 1167, 5943,
+    3900, 5943, 5943, 1471, 3178, 3169, 589, 3443, 5034, 1457, 4341, 5191, 928, 3626, 329, 1212, 1179, 1484, 4460, 5320,
+    4430, 1978, 5205, 2390, 2995, 3242, 5943, 694, 5943, 5943, 5852, 2904, 5943, 5943, 5943, 5943, 4394, 2350, 146,
+    1490, 3652, 1719, 2381, 1967, 4944, 2162, 328, 254, 5943, 5943, 5943, 5943, 5943, 2606, 5943, 5943, 5943, 5943,
+    1733, 1821, 1028, 4634, 645, 3288, 4105, 5943, 5943, 5943, 5595, 1099, 1100, 3615, 3649, 4044, 2751, 5943, 5943,
+    5943, 3940, 5277, 5943, 2376, 5943, 5199, 5943, 5943, 2018, 5096, 5097, 920, 1341, 3992, 2169, 5397, 442, 5446,
+    3949, 4663, 4161, 2212, 4571, 5943, 1693, 4534, 3470, 5873, 1271, 2603, 90, 4732, 5943, 5943, 5943, 2383, 5943,
+    5933, 4412, 3506, 2845, 2302, 682, 5943, 2602, 2502, 3167, 5316, 1032, 4403, 4269, 909, 501, 1960, 1566, 2669, 4839,
+    3179, 1538, 1817, 938, 1806, 330, 3345, 412, 3485, 4064, 5878, 2987, 283, 284, 3019, 2367, 3278, 4675, 1244, 2200,
+    2294, 2692, 166, 5943, 2062, 5943, 4449, 2906, 5943, 5943, 4838, 5943, 5943, 5943, 5580, 3990, 4507, 5943, 1845,
+    3024, 5943, 704, 631, 5943, 5764, 5943, 5943, 5943, 5943, 5943, 5943, 5943, 1815, 5943, 5943, 5943, 1607, 4150, 865,
+    4890, 5774, 5943, 5943, 3248, 2582, 3963, 950, 5943, 1908, 5013, 5943, 5943, 5943, 5943, 5943, 5943, 392, 2624,
+    4252, 3490, 5377, 5736, 1021, 4263, 3102, 2412, 3221, 4506, 566, 5943, 5943, 5943, 5943, 2146, 4282, 5943, 5943,
+    1358, 3523, 4686, 1342, 181, 5943, 5943, 5943, 5943, 5943, 4611, 4612, 5943, 3496, 5704, 3439, 5943, 5788, 5699,
+    3545, 4239, 3798, 4060, 2322, 5943, 4256, 2540, 542, 5943, 5943, 1971, 5943, 5943, 5943, 1723, 821, 3475, 5943,
+    5943, 5943, 471, 5943, 5943, 5943, 5943, 3613, 563, 5230, 1453, 2999, 4992, 3326, 5943, 5943, 5943, 5943, 2947,
+    5943, 4459, 5943, 650, 5943, 3503, 5707, 5321, 4792, 5943, 5943, 5943, 5943, 1929, 5943, 1797, 205, 3484, 3547, 893,
+    4533, 365, 5943, 1648, 2122, 5333, 2235, 5943, 5943, 5943, 5943, 5943, 3026, 2571, 553, 1855, 3391, 360, 2131, 4702,
+    5943, 5943, 5217, 5943, 5943, 4429, 5619, 5543, 3410, 3928, 5943, 2532, 1036, 1011, 3530, 2368, 1994, 5011, 5666,
+    3796, 2476, 5110, 3806, 3175, 5943, 5943, 5943, 5559, 556, 5943, 5943, 5943, 5943, 5943, 5943, 5409, 4765, 659,
+    1632, 3225, 5943, 5943, 5943, 648, 4512, 3892, 5304, 5943, 5943, 5943, 5943, 5943, 5943, 5943, 5943, 5943, 1505,
+    1501, 1411, 3130, 2324, 2709, 5832, 3394, 4767, 5943, 1550, 2332, 2538, 5943, 2876, 158, 3267, 2943, 5289, 4497,
+    135, 3671, 5356, 1548, 1635, 96, 5943, 3314, 54, 5943, 5943, 3534, 3557, 5884, 1773, 5565, 3822, 5943, 5943, 1109,
+    3550, 2634, 3127, 910, 5943, 533, 4108, 5808, 1756, 1243, 2314, 2962, 3776, 5943, 676, 3578, 3317, 4884, 4760, 3156,
+    5943, 2336, 5943, 5943, 4753, 4355, 5280, 2085, 1846, 5943, 5943, 5943, 2107, 3603, 3712, 5943, 5866, 1441, 3464,
+    5943, 5943, 5943, 5943, 638, 1918, 1097, 1098, 5943, 5819, 5608, 3835, 1124, 1775, 4722, 2364, 5435, 4773, 1380,
+    5943, 1288, 5943, 5943, 3579, 737, 5943, 1634, 5618, 1545, 4243, 3526, 3939, 5793, 5201, 2826, 1031, 2856, 1651,
+    4298, 4227, 2935, 734, 717, 5943, 2416, 5943, 2872, 4801, 5943, 5215, 3782, 5943, 3799, 1930, 4056, 4798, 4889,
+    5943, 5943, 5943, 2438, 1425, 5943, 3877, 5943, 1959, 5943, 198, 199, 5905, 4657, 2038, 690, 3103, 3492, 5790, 1210,
+    635, 3381, 170, 5943, 4739, 5943, 5943, 5943, 24, 594, 5661, 25, 5943, 2600, 2967, 839, 110, 4647, 2689, 5943, 5943,
+    2369, 3616, 5943, 5943, 1837, 768, 128, 5701, 5787, 3651, 5689, 3315, 5943, 5943, 5943, 5943, 5943, 5943, 5943,
+    5943, 844, 5943, 5943, 1055, 5943, 5943, 5943, 5943, 2377, 3294, 5943, 591, 1279, 4891, 1745, 3970, 921, 494, 4796,
+    3497, 292, 293, 4221, 3887, 939, 3049, 891, 507, 2447, 4285, 4875, 628, 2083, 4163, 3432, 1574, 4250, 2179, 5943,
+    5943, 5943, 4583, 5943, 5943, 5943, 5943, 3387, 5626, 3269, 3206, 2481, 1094, 5807, 4115, 2765, 2052, 3974, 1399,
+    4305, 670, 5550, 3779, 5288, 173, 4766, 3046, 2841, 3977, 5577, 624, 5644, 4, 4085, 869, 1813, 1074, 4440, 5569, 5,
+    206, 5883, 5490, 4481, 1385, 5943, 5943, 5943, 5943, 5943, 1293, 5943, 5943, 5943, 1906, 5943, 1325, 5943, 346,
+    1009, 3489, 2009, 5660, 977, 5484, 2815, 2409, 4254, 2591, 3612, 4588, 3966, 3741, 5943, 5943, 5434, 4899, 2989,
+    4082, 5943, 4296, 4505, 4762, 2174, 5943, 5943, 3955, 3193, 1730, 5154, 178, 5741, 5943, 3303, 2643, 5943, 5943,
+    5943, 5943, 4297, 5381, 5943, 2375, 5943, 5943, 5943, 642, 2201, 1088, 552, 1367, 1323, 4729, 4386, 5015, 2909,
+    5943, 5943, 5472, 5943, 5943, 5943, 5943, 5943, 2012, 5227, 5943, 4988, 5065, 1371, 230, 1876, 231, 2230, 1041,
+    5005, 5796, 1591, 5048, 788, 529, 2160, 5943, 5943, 5943, 5943, 5943, 5943, 1195, 1360, 169, 973, 1697, 4871, 5943,
+    1070, 5943, 5943, 5943, 5943, 5943, 5943, 5943, 5943, 362, 3811, 5943, 3347, 2850, 4764, 5943, 3951, 3697, 1155,
+    3624, 255, 5151, 5729, 3960, 1820, 5911, 5811, 532, 4886, 3031, 4947, 3539, 1313, 2805, 5198, 4857, 5943, 5943,
+    1299, 5943, 5943, 1467, 5319, 5384, 1610, 2211, 4168, 4184, 969, 2082, 5943, 2727, 2793, 5943, 2171, 5943, 5831,
+    219, 438, 5943, 3833, 1498, 3441, 3041, 2973, 4363, 2223, 2260, 5417, 5943, 5943, 5193, 1559, 3957, 2633, 5943,
+    3368, 1714, 5943, 5629, 5943, 3851, 4593, 2674, 5943, 5943, 5943, 5943, 5943, 5943, 5943, 5943, 2343, 888, 3053,
+    5290, 3781, 4313, 640, 5943, 5943, 3596, 4210, 525, 5943, 5943, 5943, 4659, 2699, 4599, 5943, 5943, 5943, 5943, 477,
+    5943, 5055, 5943, 5877, 2503, 5943, 5943, 5943, 5943, 5943, 5209, 5943, 2766, 4453, 226, 227, 2966, 5943, 56, 3525,
+    4717, 747, 5943, 5943, 5943, 4172, 4273, 3890, 5943, 5943, 5842, 1213, 2932, 2437, 4774, 5943, 5943, 5943, 2512,
+    4806, 113, 5943, 5943, 2051, 830, 2115, 5943, 5943, 5943, 5943, 4120, 5611, 4822, 5943, 5118, 5497, 5943, 5943,
+    5943, 2960, 5943, 5535, 2991, 5042, 5229, 5943, 5943, 5943, 5943, 1551, 5225, 5226, 1988, 2044, 2785, 878, 3162,
+    2543, 1615, 4691, 3607, 2881, 3575, 5943, 204, 5943, 5943, 5943, 5943, 2844, 4870, 929, 4113, 99, 2594, 714, 1143,
+    5943, 5943, 274, 5943, 5703, 5943, 3929, 2522, 885, 1721, 1790, 1208, 5710, 4780, 607, 130, 5943,
 };
 
 /* The same by a hash of their octets. */
 CONST_OID_TABLE const uint16_t const_oid_common_octets_by_hash[] = {
-    0, 2023, 938, 1251, 1593, 776, 4134, 946, 3444, 3445, 4502, 4502, 2087, 4502, 4502, 4502, 2973, 2974, 2260, 2261,
-    2262, 3756, 3757, 1429, 1862, 3094, 3758, 3069, 3070, 4406, 1742, 1895, 2736, 3002, 4407, 4502, 2917, 4502, 2835,
-    4502, 4502, 1883, 847, 848, 849, 2001, 3483, 1765, 4502, 4502, 4502, 4502, 4502, 4502, 2224, 4152, 4502, 1648, 1616,
-    2662, 4502, 4502, 1734, 2647, 4502, 4502, 4502, 980, 4502, 436, 4502, 1140, 1416, 4502, 4502, 4502, 4502, 4502,
-    4502, 1259, 4502, 4502, 4502, 3218, 4502, 2211, 3274, 163, 164, 3315, 4502, 4394, 4395, 1685, 1948, 1723, 4502,
-    1289, 1034, 2150, 1804, 2857, 4180, 2237, 955, 2337, 2280, 2281, 2282, 3290, 833, 834, 911, 2359, 2360, 2850, 600,
-    601, 422, 602, 1130, 1301, 1831, 2102, 3098, 3400, 4008, 4045, 959, 2789, 4046, 1599, 759, 2507, 2534, 4170, 4181,
-    4196, 4305, 4502, 4366, 1487, 1522, 4367, 2932, 4502, 2434, 2132, 4502, 4502, 4502, 4502, 3412, 2590, 3413, 4502,
-    1875, 3127, 2569, 3128, 4053, 4502, 1208, 4502, 1508, 4502, 4502, 4502, 5, 6, 4502, 4502, 4502, 4502, 2714, 4502,
-    4502, 4238, 4502, 4502, 1914, 703, 704, 2542, 4502, 1190, 4502, 4502, 2457, 1169, 1544, 1390, 3256, 2727, 1658, 497,
-    4502, 4502, 4502, 4502, 4502, 3638, 2205, 2618, 3639, 3640, 3641, 2724, 293, 3642, 3643, 3644, 3645, 3646, 4502,
-    4502, 4502, 41, 42, 1064, 4250, 4502, 4502, 4502, 4502, 4502, 4221, 4502, 1192, 4502, 4502, 4502, 2328, 4502, 213,
-    214, 248, 249, 2459, 2604, 4472, 4473, 4502, 4502, 1082, 4502, 4502, 4502, 1747, 3145, 4475, 4502, 4502, 4502, 4502,
-    4502, 1165, 3492, 2180, 4502, 4502, 4502, 4502, 4502, 4502, 4502, 2028, 1642, 4261, 1234, 1472, 2074, 4105, 3135,
-    2059, 4262, 4074, 4502, 4502, 4502, 4502, 4502, 4502, 500, 501, 502, 935, 54, 1800, 1819, 2451, 4444, 2595, 4445,
-    4502, 4502, 4502, 4502, 4502, 3535, 4502, 4502, 4502, 4502, 444, 4502, 1151, 4502, 4502, 4502, 4502, 1013, 4502,
-    4502, 49, 3862, 3863, 1273, 2746, 1820, 3750, 942, 2051, 3751, 3752, 3864, 803, 804, 1564, 1879, 690, 114, 1451,
-    2184, 2987, 3865, 1368, 1444, 3866, 1922, 1782, 3054, 3055, 3272, 3993, 4123, 4229, 4416, 1680, 4417, 4502, 4502,
-    4502, 4502, 927, 3212, 4502, 4502, 4502, 4502, 4502, 4502, 2522, 250, 251, 1796, 3914, 4502, 4502, 3206, 945, 4141,
-    3372, 1107, 2088, 3373, 1583, 3374, 3523, 3299, 4488, 975, 3968, 3969, 1691, 1407, 2477, 3970, 4502, 4502, 4502,
-    4502, 4502, 4502, 3822, 623, 624, 625, 3823, 3824, 4502, 3283, 4502, 2006, 874, 875, 876, 1483, 1843, 2771, 1711,
-    4031, 4032, 4502, 1560, 4502, 779, 780, 1965, 2217, 2659, 4159, 1840, 2094, 4502, 4502, 913, 1952, 95, 96, 97, 4502,
-    427, 1310, 1150, 1331, 2164, 318, 319, 4502, 4502, 4502, 4502, 266, 4502, 4502, 4502, 2600, 2207, 174, 175, 475,
-    476, 477, 478, 479, 480, 1121, 1122, 1494, 1280, 1688, 1724, 1993, 2135, 2231, 2941, 951, 1500, 3418, 1318, 2796,
-    2574, 3419, 2377, 4376, 2794, 4377, 4502, 586, 254, 255, 587, 988, 1015, 1133, 4480, 4481, 4502, 4502, 4502, 2814,
-    4233, 1600, 2506, 728, 729, 800, 999, 2529, 2804, 3150, 3151, 3152, 1547, 3153, 2939, 3154, 3627, 3628, 3629, 3630,
-    3631, 4502, 4502, 4502, 4502, 4502, 3224, 4502, 4502, 4502, 2404, 4502, 4502, 1199, 4502, 2866, 131, 4502, 4502,
-    1867, 575, 4502, 2869, 4502, 4502, 4502, 4502, 1772, 4208, 3197, 3198, 748, 749, 3199, 344, 345, 1102, 191, 192,
-    193, 981, 1399, 660, 2607, 2680, 1660, 2906, 1078, 2907, 2908, 3302, 4209, 2199, 4210, 376, 223, 377, 4332, 4333,
-    915, 4502, 4502, 1183, 1346, 4502, 2632, 4502, 31, 32, 1631, 4502, 4502, 4502, 4502, 1106, 4095, 4502, 4314, 410,
-    891, 892, 4315, 4502, 4502, 4502, 3555, 3556, 3557, 3558, 3559, 4502, 4502, 4502, 1857, 4502, 4502, 1777, 4502,
-    4502, 1748, 4502, 4202, 4203, 4502, 4502, 4502, 4502, 1167, 4502, 4502, 4502, 3744, 2838, 3314, 3745, 3746, 4502,
-    4257, 4502, 1227, 4502, 4502, 4502, 4112, 4502, 2052, 4502, 4502, 632, 4502, 4502, 2824, 4502, 524, 525, 526, 3115,
-    4502, 1363, 1439, 3480, 1932, 3481, 4458, 2562, 4459, 4502, 4502, 4502, 4502, 4502, 4502, 4502, 4502, 2554, 2121,
-    4502, 1162, 1789, 4502, 4502, 46, 4502, 4502, 4502, 2019, 3521, 3867, 1241, 3868, 322, 2245, 3869, 1039, 3870, 3871,
-    4130, 4502, 1565, 4502, 4502, 4502, 1223, 1458, 234, 346, 1377, 1816, 1418, 1917, 2484, 3269, 2166, 2780, 3080,
-    3081, 4000, 4398, 2172, 4399, 4502, 4502, 4502, 4502, 1001, 3696, 3697, 4346, 4347, 4502, 4502, 4502, 4502, 4502,
-    2319, 2320, 1088, 1507, 1941, 1968, 2740, 4148, 4502, 1552, 2123, 2081, 4495, 4502, 3345, 670, 671, 672, 3346, 4502,
-    4502, 4502, 1404, 4502, 4502, 4502, 4502, 4502, 4502, 4502, 4502, 3847, 1893, 3848, 3849, 3850, 3851, 3286, 154,
-    155, 3319, 4502, 1476, 4386, 4387, 4297, 4298, 4502, 1285, 2040, 2146, 1823, 2739, 4177, 808, 2218, 3404, 4166,
-    4502, 4502, 3450, 841, 794, 842, 1988, 2113, 2368, 2369, 2098, 1305, 1125, 21, 22, 1274, 3451, 4004, 4502, 138, 139,
-    140, 309, 310, 1261, 2511, 3619, 2538, 2035, 3620, 3621, 3622, 4502, 4358, 1534, 4359, 4502, 1718, 4502, 1021, 2128,
-    4227, 4502, 4502, 4502, 4502, 2816, 119, 120, 121, 122, 1327, 2393, 907, 2394, 1212, 2565, 2847, 4502, 4206, 4207,
-    4502, 4502, 4502, 4502, 4502, 4502, 4502, 4502, 4502, 4242, 3187, 3188, 4502, 711, 2716, 2546, 3174, 2251, 3175,
-    4502, 4502, 1540, 4502, 4502, 2934, 2766, 4502, 1268, 1079, 4502, 4502, 4502, 4502, 4502, 2201, 2997, 2998, 2999,
-    2583, 3000, 1171, 4502, 1198, 1186, 1627, 2625, 4502, 4502, 4502, 4502, 2685, 4254, 4502, 3229, 4502, 4502, 3553,
-    1773, 4217, 4502, 4502, 730, 731, 4502, 4502, 2045, 1071, 199, 200, 4502, 2489, 1392, 4502, 4502, 1652, 896, 1022,
-    4502, 4502, 995, 1759, 4502, 3738, 3739, 3740, 4502, 4502, 4502, 4502, 4502, 4502, 4502, 4502, 4502, 4502, 1008,
-    1519, 2812, 2818, 1638, 3255, 1468, 2068, 4502, 4102, 4502, 2063, 65, 2155, 649, 650, 651, 652, 2406, 2407, 513,
-    514, 515, 516, 57, 517, 1358, 2408, 3300, 3312, 3473, 3474, 2273, 2274, 2798, 3475, 3487, 3762, 3763, 2639, 3764,
-    1091, 1849, 3519, 2331, 2332, 2333, 4269, 4468, 4469, 983, 4502, 1029, 3910, 1228, 3911, 4502, 4502, 4119, 238,
-    4502, 4502, 277, 278, 279, 1582, 4502, 2991, 2992, 3109, 972, 3986, 2667, 1372, 1448, 2471, 3987, 4440, 3062, 1576,
-    3063, 3064, 4441, 4502, 4502, 4502, 4502, 300, 2159, 4502, 186, 187, 1002, 1909, 2697, 4502, 4502, 2439, 2440, 2441,
-    4502, 1590, 4502, 4502, 769, 1958, 3430, 3431, 3432, 3433, 2122, 2084, 2340, 2341, 2342, 697, 2829, 2969, 2970,
-    2971, 2972, 3295, 1426, 3954, 3955, 3956, 2779, 3019, 3020, 3021, 1739, 1812, 611, 612, 613, 1779, 2731, 3022, 2768,
-    2834, 3023, 855, 856, 857, 858, 1861, 2002, 1707, 2718, 3024, 2116, 1972, 3837, 3838, 1961, 2229, 3839, 1553, 2663,
-    3840, 3841, 1343, 3842, 920, 669, 3331, 3332, 3957, 2688, 4137, 4155, 1147, 1413, 4225, 4502, 4502, 4502, 4502,
-    4502, 1254, 4502, 4502, 1887, 4502, 3225, 4502, 165, 166, 823, 824, 930, 3277, 1684, 4368, 4369, 1720, 4502, 4502,
-    2852, 2147, 4502, 4502, 2242, 2806, 1586, 2338, 2298, 1314, 1936, 2299, 2339, 2075, 2387, 2388, 2570, 3424, 4015,
-    425, 1296, 1129, 1776, 2105, 3259, 4182, 4183, 4189, 4502, 4502, 958, 4237, 2510, 2178, 4502, 4502, 2533, 2043,
-    2753, 4502, 4502, 4502, 4502, 1492, 1527, 2927, 3385, 3386, 231, 3387, 3388, 4502, 4502, 1621, 73, 4502, 4502, 3125,
-    1872, 3126, 2588, 4502, 4502, 4502, 1203, 2423, 2424, 2425, 2426, 1792, 1, 2, 1983, 2427, 3232, 3533, 4502, 4502,
-    966, 4502, 4502, 4502, 754, 4502, 2541, 336, 337, 2674, 487, 488, 489, 1168, 1387, 1541, 3306, 3732, 1657, 2114,
-    3733, 3734, 4502, 4502, 4502, 3375, 3376, 1790, 4502, 4502, 4502, 4502, 4502, 4502, 4502, 1179, 1349, 4502, 4502,
-    1512, 37, 38, 1063, 2124, 3466, 3467, 3468, 3469, 408, 3470, 1276, 1601, 1956, 809, 810, 811, 812, 1935, 211, 212,
-    246, 247, 3471, 4091, 4502, 4502, 4502, 1027, 4502, 4502, 4502, 4502, 1401, 302, 4502, 208, 4502, 4502, 4502, 4058,
-    1166, 1246, 2770, 4502, 4502, 4502, 4502, 1007, 4502, 4502, 4502, 4502, 1239, 4502, 4502, 4502, 4108, 4502, 2056,
-    4502, 4502, 639, 640, 2754, 4502, 693, 547, 243, 74, 244, 548, 549, 550, 551, 552, 553, 1367, 1836, 1928, 4025,
-    2895, 2896, 3787, 3788, 3789, 2643, 3790, 3791, 447, 1094, 1158, 2709, 4026, 4450, 4451, 4502, 4502, 4502, 2015,
-    4502, 4502, 1341, 4502, 4502, 4289, 4126, 4290, 4502, 4076, 653, 4502, 4502, 391, 392, 2187, 1454, 2957, 1901, 2958,
-    1381, 2959, 1422, 1921, 1939, 2464, 2960, 2784, 3050, 3051, 3052, 3053, 3118, 3119, 3131, 3265, 2162, 3271, 3360,
-    83, 84, 3361, 3261, 2863, 700, 3548, 3813, 3814, 3815, 1981, 1336, 1474, 768, 1925, 3996, 4043, 4044, 4144, 4422,
-    2076, 2077, 3612, 3340, 677, 3341, 218, 3613, 385, 386, 323, 324, 1408, 1784, 2179, 2482, 2873, 3977, 3978, 3979,
-    4423, 620, 621, 622, 4489, 4498, 3282, 145, 146, 4499, 4502, 1480, 4502, 4502, 4502, 940, 1701, 1771, 1031, 1557,
-    1195, 2497, 4171, 299, 4162, 2656, 2304, 2305, 1837, 4172, 2901, 798, 685, 102, 103, 2884, 2885, 2886, 430, 1309,
-    27, 28, 2327, 3089, 4023, 4024, 4502, 4502, 295, 1265, 4502, 4502, 762, 4502, 3379, 3380, 4502, 4502, 4502, 4502,
-    4382, 1495, 1530, 2120, 1714, 1283, 2192, 2140, 2193, 1671, 2447, 2235, 3417, 4226, 4383, 4502, 1323, 4502, 2577,
-    462, 463, 464, 1216, 1985, 2398, 2399, 3531, 4502, 1136, 1609, 1781, 4502, 4502, 4502, 4502, 4502, 957, 4502, 4502,
-    2501, 2711, 717, 718, 2550, 3163, 3164, 3726, 3727, 3728, 4502, 2623, 4502, 2938, 2797, 1663, 4502, 4502, 4502,
-    4502, 4502, 1603, 4502, 4502, 2785, 4502, 4502, 2579, 4051, 4502, 3462, 1202, 1977, 1623, 3463, 4502, 4502, 4502,
-    1864, 1055, 4502, 4502, 4502, 4502, 4493, 4502, 962, 1730, 2702, 1645, 738, 739, 2670, 4213, 4502, 4502, 2610, 2905,
-    4502, 2558, 1396, 655, 4502, 115, 116, 4502, 321, 4502, 4502, 1755, 4502, 4502, 370, 371, 222, 2517, 1313, 4330,
-    4331, 4502, 4502, 1675, 4502, 3134, 2822, 4502, 239, 4246, 283, 284, 1464, 1634, 4502, 3686, 3687, 3688, 1955, 4098,
-    4309, 4502, 4502, 2033, 4502, 4502, 4502, 4502, 4502, 4502, 4502, 4502, 4460, 4461, 3242, 936, 4502, 4502, 3538,
-    3539, 3777, 3778, 3779, 3780, 3781, 3782, 4502, 362, 363, 4502, 1825, 4502, 2691, 60, 2831, 4502, 4502, 4502, 3896,
-    3897, 3898, 3899, 3900, 348, 349, 4115, 1339, 2053, 4070, 1502, 3507, 1572, 3508, 3509, 540, 541, 542, 543, 544,
-    545, 546, 1360, 1436, 1933, 2467, 1580, 3113, 3114, 4299, 3801, 1694, 3802, 3803, 4300, 4328, 4329, 178, 179, 4432,
-    1905, 1842, 4433, 4502, 4502, 4502, 4502, 1067, 1594, 1266, 2024, 774, 775, 3442, 3443, 1038, 4133, 4502, 4502,
-    4502, 4502, 4502, 4502, 4502, 4502, 2263, 3936, 3937, 3938, 1430, 327, 2485, 3093, 3067, 3068, 2592, 3939, 1743,
-    1896, 2735, 3940, 4404, 4405, 2916, 3108, 4502, 4502, 4502, 845, 846, 1889, 4340, 4341, 4502, 1764, 4502, 4223,
-    4502, 1087, 1484, 4502, 2225, 4047, 4048, 85, 1615, 4151, 4502, 1735, 4502, 4502, 676, 4502, 4502, 4502, 4502, 435,
-    4502, 1143, 1417, 4502, 4502, 4502, 4502, 4502, 4502, 1258, 4502, 4502, 3219, 4502, 3106, 2212, 156, 157, 4502,
-    4502, 4502, 1477, 4392, 4393, 1949, 1702, 3550, 1288, 2856, 2143, 1677, 1808, 2238, 2799, 954, 3399, 2283, 2284,
-    2285, 835, 836, 2357, 2358, 2848, 4011, 4169, 597, 421, 598, 599, 17, 18, 1124, 1300, 1311, 902, 303, 304, 1832,
-    2101, 2514, 2788, 761, 2689, 2537, 3720, 3721, 3722, 4179, 4306, 4364, 1488, 1523, 2931, 4365, 4502, 1020, 2133,
-    4502, 3458, 4502, 3410, 3411, 4502, 4502, 414, 1876, 2846, 2568, 2396, 2397, 4054, 1207, 4502, 4502, 1294, 4502,
-    4502, 4502, 4502, 4502, 4502, 4502, 4502, 2715, 4502, 3517, 4239, 3184, 3185, 701, 702, 1915, 2545, 3178, 1189,
-    1048, 3179, 2458, 1537, 1391, 3186, 4502, 4502, 1666, 4502, 4502, 4502, 4502, 4502, 4502, 2206, 2617, 2993, 2994,
-    2995, 2996, 1173, 294, 2723, 4502, 1053, 4502, 3680, 3681, 3682, 4502, 1058, 4251, 4502, 4502, 3228, 4502, 4502,
-    4502, 4220, 4502, 1218, 880, 736, 737, 881, 4502, 4502, 196, 197, 198, 2603, 4396, 4397, 4502, 4502, 2861, 4502,
-    4502, 4502, 4502, 4502, 1756, 4474, 4502, 4502, 4502, 4502, 4502, 4502, 1164, 1250, 4502, 4502, 4502, 4502, 4502,
-    4502, 2487, 4502, 1641, 2029, 1235, 1473, 3504, 2095, 3505, 4104, 2060, 4263, 1729, 644, 2629, 4264, 4502, 3289,
-    4502, 4502, 4502, 2452, 4502, 1355, 1801, 2631, 4502, 1028, 2594, 4502, 4502, 4502, 4301, 1997, 4502, 4502, 4502,
-    4502, 4502, 1846, 439, 440, 441, 442, 443, 490, 491, 1154, 2686, 2830, 48, 2011, 3599, 1332, 2749, 1821, 3600, 3601,
-    2066, 3602, 3901, 801, 802, 1573, 3902, 2183, 689, 2437, 2438, 2979, 2980, 2981, 1369, 1441, 2460, 2807, 2097, 2982,
-    2983, 2984, 2985, 2986, 3059, 3060, 1681, 3061, 3903, 2158, 258, 3904, 3905, 3992, 4064, 4122, 4281, 792, 4282, 984,
-    1990, 2523, 1587, 1904, 3489, 773, 2751, 3427, 3428, 3429, 3490, 3915, 2089, 2343, 1584, 2344, 2345, 2346, 2347,
-    2348, 932, 3296, 3916, 1427, 2478, 3965, 3966, 3015, 3016, 3017, 3018, 3967, 2409, 609, 610, 2410, 2411, 2725, 4140,
-    4414, 4415, 1844, 869, 870, 871, 872, 873, 3220, 1712, 4033, 4034, 4066, 4502, 4502, 778, 1966, 2226, 2660, 3408,
-    1329, 1614, 1841, 3409, 4158, 4502, 4502, 92, 93, 94, 1187, 426, 1149, 4502, 4502, 4502, 316, 317, 2444, 2445, 2446,
-    273, 1253, 3322, 3323, 4502, 4502, 4502, 176, 177, 469, 470, 471, 472, 473, 474, 814, 815, 816, 1042, 1118, 1119,
-    1120, 384, 1279, 952, 1647, 1687, 1725, 1319, 1994, 2136, 2250, 2286, 2287, 2288, 2289, 2290, 583, 584, 585, 987,
-    1132, 788, 1295, 1402, 2376, 2573, 2795, 2851, 2815, 3138, 2505, 3292, 724, 725, 726, 727, 2649, 2803, 1049, 3294,
-    3423, 3516, 4018, 2926, 4190, 4191, 227, 4192, 4234, 4374, 4375, 63, 4502, 3677, 3678, 2782, 3679, 4062, 4502, 4502,
-    4502, 1206, 4502, 4502, 4502, 4502, 4502, 4502, 1868, 2115, 4502, 2868, 4502, 4502, 4502, 1104, 4502, 2698, 2515,
-    2699, 746, 747, 2764, 342, 343, 3194, 3195, 2096, 3196, 2650, 1384, 659, 3303, 4502, 4502, 4502, 301, 4502, 4502,
-    4502, 4502, 4502, 378, 379, 226, 4502, 4502, 4502, 4502, 3498, 1184, 3499, 3500, 3501, 4502, 1511, 33, 34, 1065,
-    1630, 2944, 4502, 4502, 4502, 967, 3143, 3144, 409, 889, 890, 807, 1224, 2621, 4094, 4316, 1267, 4317, 4077, 1982,
-    2448, 4078, 4502, 1858, 3238, 4502, 4502, 3588, 3589, 110, 111, 207, 494, 1749, 3590, 2730, 3591, 3592, 3593, 4502,
-    45, 4502, 2839, 4502, 4502, 4502, 4502, 4258, 4502, 1236, 4502, 4502, 354, 355, 1036, 2057, 4111, 2757, 627, 628,
-    629, 630, 631, 565, 566, 567, 568, 569, 695, 1364, 1440, 1929, 2826, 4456, 4457, 4502, 4502, 4502, 3546, 4502, 4502,
-    496, 4502, 4502, 2557, 4502, 2008, 1161, 4502, 4502, 4502, 4502, 4502, 4502, 4502, 2020, 3872, 1242, 3873, 3874,
-    3875, 2246, 3876, 3877, 4129, 4502, 4502, 4502, 1566, 4502, 2186, 1457, 1817, 2258, 233, 2954, 1378, 1419, 325,
-    2465, 2955, 2956, 3076, 3077, 3078, 3079, 4003, 4502, 4502, 4502, 4502, 4502, 4502, 1098, 4502, 4502, 4502, 4348,
-    4349, 2864, 4502, 4502, 61, 1556, 2321, 2322, 1449, 2323, 785, 786, 1945, 1678, 2174, 2705, 4147, 2082, 2646, 4502,
-    4502, 2010, 4502, 3974, 976, 3975, 1783, 3976, 1405, 4502, 4502, 4502, 3046, 3047, 4502, 4502, 4502, 3453, 4502,
-    4502, 1193, 4502, 4502, 147, 148, 149, 3285, 3318, 1481, 1806, 4384, 4385, 4502, 2194, 1284, 1033, 1558, 2041, 2195,
-    2219, 2738, 2860, 3326, 3403, 3514, 4165, 4175, 1989, 793, 2365, 108, 109, 2366, 2367, 433, 1304, 4007, 23, 24,
-    1275, 1973, 4176, 4193, 141, 142, 280, 1260, 4199, 4200, 4302, 3100, 4502, 4502, 4502, 4502, 267, 268, 269, 1535,
-    3321, 1880, 1719, 3664, 3253, 2129, 3665, 3666, 3667, 3668, 3669, 3670, 3671, 1328, 3672, 3673, 2108, 2564, 906,
-    4356, 1211, 4357, 4502, 2871, 4502, 2695, 11, 12, 4502, 4502, 2248, 2249, 4502, 4502, 4502, 4502, 3193, 4502, 709,
-    710, 2549, 3172, 3173, 4502, 2802, 4502, 4502, 4502, 4502, 4502, 2933, 2765, 1662, 1269, 1081, 4502, 4502, 4502,
-    1610, 4502, 2202, 4502, 4502, 2154, 2582, 4502, 4502, 4502, 1197, 1974, 1644, 2620, 4502, 3133, 4502, 626, 4502,
-    4502, 4502, 4502, 4502, 4502, 1788, 1245, 3364, 3365, 3366, 744, 745, 2671, 3367, 3368, 4216, 4502, 3574, 3575,
-    2498, 1393, 3576, 3577, 117, 118, 897, 1084, 1655, 3578, 1752, 3579, 4326, 364, 365, 4327, 4502, 4502, 4502, 4502,
-    4502, 4502, 1676, 4502, 4502, 1011, 1518, 2819, 1637, 4502, 4502, 1469, 1845, 2067, 4101, 4502, 2064, 2156, 4310,
-    645, 646, 647, 648, 2032, 509, 510, 511, 512, 2405, 56, 1359, 3311, 3396, 4311, 4312, 4466, 4467, 2275, 4245, 4502,
-    4502, 4502, 1110, 4502, 2640, 1850, 4502, 4502, 4502, 4502, 4502, 4502, 4502, 4502, 4502, 4502, 2598, 3887, 3888,
-    1229, 2745, 3889, 4502, 4118, 237, 4502, 2070, 4502, 4502, 4502, 1569, 4502, 2989, 2990, 3983, 974, 3984, 2679,
-    1373, 1445, 2472, 3985, 4438, 1577, 4439, 4502, 4502, 4502, 4502, 1695, 4502, 4502, 4502, 4502, 188, 189, 3711,
-    3712, 1797, 1910, 3713, 4502, 4502, 985, 4502, 4502, 1591, 4502, 4502, 1969, 4502, 3440, 1040, 3441, 2152, 4136,
-    2085, 4486, 4487, 3349, 696, 921, 2968, 2259, 3350, 3351, 3262, 1431, 3352, 397, 398, 399, 2778, 3035, 1740, 2945,
-    3036, 3037, 1780, 3038, 3039, 2915, 3092, 2767, 3834, 1870, 851, 852, 853, 854, 2003, 2717, 332, 333, 1462, 1708,
-    1763, 2706, 3513, 1962, 948, 2222, 1554, 1618, 2664, 3835, 3836, 3950, 666, 667, 668, 2176, 3333, 3334, 438, 1146,
-    1410, 3335, 3336, 3337, 3951, 2712, 3952, 3953, 1257, 4037, 4038, 1888, 4065, 3231, 3652, 167, 168, 825, 826, 827,
-    286, 3280, 3653, 3654, 1721, 1291, 3655, 2855, 2148, 3656, 3657, 2243, 950, 2356, 2810, 3397, 1315, 3398, 2845,
-    2385, 2386, 3394, 3395, 3658, 4014, 4154, 424, 1299, 1128, 2876, 3260, 3540, 3541, 4224, 2118, 305, 306, 4231, 4275,
-    1597, 2509, 4276, 4410, 2532, 2048, 1070, 4411, 4502, 4502, 1489, 1528, 2126, 2490, 2930, 3327, 230, 4502, 4502,
-    4502, 4502, 4502, 4502, 4502, 4502, 3123, 1873, 2587, 3124, 4502, 4502, 1210, 4502, 4502, 4502, 43, 44, 991, 1793,
-    1059, 1805, 2433, 3528, 3529, 4502, 4502, 3561, 3562, 3203, 3563, 753, 3564, 2540, 334, 335, 2675, 1047, 3307, 2455,
-    1542, 1388, 3565, 3566, 1656, 2737, 3567, 4502, 4502, 4502, 576, 577, 578, 2203, 3759, 3760, 3761, 4502, 1172, 4502,
-    4502, 1180, 4502, 4502, 4502, 4502, 1515, 4502, 1062, 2127, 4502, 3328, 4502, 4502, 4502, 4090, 4502, 4502, 4502,
-    4502, 4502, 4502, 3484, 2330, 4502, 205, 206, 2606, 4502, 4502, 4502, 4502, 2726, 1025, 1026, 4502, 4502, 4502,
-    2177, 1745, 311, 4497, 4502, 4502, 1669, 4502, 4059, 4338, 4339, 4502, 1054, 4502, 4502, 4502, 1006, 4502, 4502,
-    2026, 4259, 1232, 1470, 4260, 4502, 4107, 4502, 2061, 4502, 4502, 637, 638, 4502, 4502, 4502, 241, 242, 506, 507,
-    508, 55, 1798, 2849, 112, 113, 2597, 4448, 4449, 3704, 3705, 3706, 3707, 4502, 4502, 2641, 4502, 1092, 446, 928,
-    1157, 4502, 4502, 4502, 4502, 2877, 4502, 51, 2016, 3852, 1342, 3853, 3854, 3855, 2256, 3856, 2665, 4125, 4287,
-    4288, 4502, 389, 390, 923, 1562, 1453, 1902, 2182, 2963, 1382, 1423, 2461, 1920, 2964, 3266, 2776, 3999, 1942, 4420,
-    3807, 3808, 2169, 3809, 3810, 1450, 2161, 3811, 3812, 4421, 4502, 4502, 4502, 4502, 663, 4502, 2942, 2520, 4502,
-    1986, 4502, 4502, 767, 1926, 2758, 4143, 4502, 4502, 4502, 2078, 4502, 4502, 4502, 4502, 4502, 217, 2264, 1074,
-    1787, 2265, 1409, 2266, 2479, 3647, 3049, 3648, 3649, 3650, 3651, 296, 617, 618, 619, 756, 3831, 3281, 3832, 3833,
-    3962, 3963, 3964, 4502, 2773, 4295, 1709, 1770, 2494, 2037, 2151, 4296, 4502, 1963, 2215, 3407, 4161, 2306, 2307,
-    1838, 2092, 2919, 797, 4502, 100, 101, 4502, 4502, 429, 1115, 1308, 4502, 4502, 3088, 4502, 4502, 4502, 4502, 1264,
-    3493, 3494, 4502, 4502, 4502, 2210, 4502, 998, 4502, 4502, 4502, 4502, 4380, 1496, 1531, 2190, 1715, 1282, 2191,
-    2141, 1991, 1674, 4381, 2236, 3416, 4502, 4502, 1324, 1814, 3525, 2576, 460, 461, 908, 1215, 2383, 588, 589, 259,
-    590, 1139, 1608, 2384, 3536, 4017, 3291, 4502, 4502, 4502, 4232, 4502, 2500, 715, 716, 2553, 2833, 3161, 3162, 4502,
-    4502, 4502, 1545, 2622, 4502, 1728, 2792, 2937, 3753, 3754, 3755, 1575, 1871, 1604, 3251, 4502, 4502, 3223, 2449,
-    2578, 4502, 4502, 917, 1201, 1978, 1624, 133, 4502, 1794, 989, 1865, 579, 580, 4502, 3482, 4502, 4492, 1733, 4212,
-    2703, 1698, 3448, 752, 3449, 4502, 4502, 4502, 2609, 2904, 4502, 1731, 1916, 1397, 2559, 4502, 1651, 4502, 4502,
-    4502, 4502, 3524, 4502, 4502, 4502, 372, 221, 373, 2516, 4502, 4502, 4502, 4502, 1052, 1181, 4502, 4502, 2634, 2270,
-    29, 30, 1633, 2943, 1465, 4247, 4502, 4097, 4502, 66, 67, 77, 78, 1829, 1903, 1954, 3141, 3142, 2272, 2432, 71,
-    3236, 3701, 3702, 3703, 4318, 1855, 3243, 4319, 4502, 4502, 4502, 3774, 3775, 3776, 4502, 4502, 4502, 4502, 4502,
-    4502, 1826, 4502, 4502, 4502, 2832, 4502, 4502, 4502, 4255, 4502, 4502, 1225, 4502, 4502, 350, 351, 356, 357, 1338,
-    2054, 1503, 2072, 2894, 2599, 3234, 530, 531, 532, 533, 534, 535, 536, 537, 538, 539, 1361, 1433, 2468, 3112, 4114,
-    3795, 3796, 3797, 3798, 3799, 3800, 180, 181, 1095, 1160, 791, 1891, 1906, 4430, 4431, 2491, 4502, 2025, 4502, 1272,
-    4502, 3248, 4502, 4132, 1037, 4502, 4502, 4502, 4502, 4502, 4502, 3632, 2976, 2891, 2892, 232, 971, 2977, 262, 263,
-    1420, 2486, 2978, 3073, 3074, 3075, 3096, 3267, 1897, 2734, 3362, 3363, 3633, 3107, 3634, 3635, 3636, 1890, 3637,
-    3929, 3930, 3931, 3932, 59, 1767, 2073, 3933, 1499, 3934, 3935, 4222, 4150, 2752, 4342, 1550, 2314, 2315, 4343,
-    1736, 4402, 674, 675, 3329, 3330, 4403, 4502, 434, 3491, 1142, 1414, 4502, 4502, 3044, 3045, 4502, 4502, 4502, 4502,
-    4502, 4502, 4502, 2213, 3105, 158, 159, 160, 3276, 3317, 1478, 4390, 4391, 4502, 1703, 328, 329, 1035, 1287, 1682,
-    1813, 1824, 2042, 2144, 2239, 2308, 2309, 2859, 837, 838, 3402, 680, 910, 3560, 4010, 594, 420, 595, 19, 20, 596,
-    1123, 1303, 1312, 1833, 143, 144, 1112, 1113, 1114, 2104, 760, 2513, 2536, 2009, 2787, 3747, 3748, 3749, 1884, 1524,
-    2031, 4168, 4184, 3254, 4197, 2134, 4198, 4307, 4362, 4363, 4502, 4502, 127, 128, 129, 130, 413, 1325, 1877, 1214,
-    2567, 4055, 4502, 2872, 1018, 4502, 7, 8, 4502, 4502, 4502, 4502, 4502, 4502, 964, 4240, 3180, 3181, 3182, 3183,
-    2544, 3177, 3204, 1188, 1046, 3205, 3522, 1538, 4502, 1089, 4502, 1665, 2775, 4502, 4502, 4502, 4502, 4502, 1605,
-    2200, 4502, 4502, 4502, 4502, 2585, 4502, 4502, 4502, 1975, 4502, 1350, 4502, 3132, 4502, 1892, 813, 1057, 4252,
-    4502, 3227, 4502, 4502, 387, 388, 3698, 3699, 3700, 734, 735, 3309, 2047, 4219, 2602, 2324, 934, 4502, 2518, 4352,
-    4353, 2181, 2867, 4502, 4502, 2153, 1668, 4502, 1757, 4502, 4502, 4502, 4502, 4502, 3221, 4060, 1249, 4502, 4502,
-    4502, 4502, 4502, 4502, 1517, 2488, 4502, 1640, 4265, 1466, 4266, 2106, 4502, 4502, 4502, 2065, 2252, 1944, 643,
-    2253, 2254, 79, 1485, 519, 520, 75, 521, 522, 523, 1356, 1802, 2453, 80, 2593, 2628, 3293, 4072, 4273, 1998, 3771,
-    3772, 3773, 4274, 4502, 1847, 1090, 4502, 1153, 2336, 2687, 4502, 2683, 1012, 2761, 47, 2012, 3906, 1333, 3369,
-    2748, 1822, 3370, 944, 236, 3371, 3623, 3624, 1504, 1574, 3625, 2442, 2443, 3626, 3907, 3995, 4121, 1370, 1442,
-    2473, 2684, 2109, 2808, 3058, 4279, 4280, 4412, 4413, 4502, 4502, 4502, 4502, 4502, 4502, 4502, 4502, 4502, 4502,
-    4502, 4502, 4502, 789, 4502, 2786, 2524, 3917, 1588, 1912, 2750, 771, 772, 3426, 3918, 3919, 4139, 4496, 2090, 2349,
-    1585, 922, 699, 2350, 2351, 978, 2352, 2353, 2354, 1428, 2355, 2475, 2967, 3009, 3010, 3011, 3012, 1810, 2733, 3013,
-    1999, 2173, 3014, 3297, 3846, 3946, 1068, 1853, 864, 865, 866, 867, 868, 1705, 2004, 3554, 1030, 3947, 202, 3948,
-    2227, 3949, 4157, 2657, 1613, 1330, 4502, 4502, 1737, 2887, 688, 89, 90, 91, 2888, 4502, 4502, 1145, 4502, 4502,
-    3741, 314, 315, 3742, 3743, 4502, 4502, 4502, 4502, 1885, 4502, 4502, 4502, 169, 170, 171, 465, 466, 467, 468, 817,
-    818, 819, 1278, 1726, 2137, 1995, 3287, 3389, 2232, 3422, 3476, 3477, 1320, 2294, 2295, 2572, 2391, 1959, 2392,
-    3478, 3479, 4013, 4188, 3257, 1774, 1135, 2793, 4372, 4373, 4484, 4485, 4502, 4502, 961, 3520, 4235, 2504, 4502,
-    723, 2531, 1101, 2648, 4502, 4502, 4502, 4502, 1525, 4502, 4502, 2165, 4502, 4502, 229, 4502, 4502, 4502, 4502,
-    4502, 4502, 4502, 4502, 3122, 4502, 4502, 3263, 4502, 4502, 1205, 4502, 4502, 4502, 3693, 3694, 3695, 1869, 499,
-    4502, 4502, 4502, 4502, 4502, 4502, 965, 4502, 3201, 3202, 4502, 4502, 2676, 340, 341, 2763, 2914, 3304, 4502, 4502,
-    1385, 658, 4502, 4502, 4502, 4502, 320, 4502, 4502, 4502, 4502, 4502, 380, 225, 381, 2412, 4502, 1899, 4057, 4502,
-    4502, 4502, 1344, 4502, 4502, 1510, 4502, 4502, 1629, 4502, 4502, 3511, 1646, 4093, 4502, 4502, 4502, 1521, 887,
-    805, 806, 888, 4502, 4502, 203, 204, 4502, 4502, 4502, 4502, 4502, 2805, 1859, 3239, 4502, 4502, 994, 1352, 1750,
-    4502, 4502, 495, 4502, 4502, 4502, 1170, 1248, 4502, 3614, 3615, 3616, 2840, 3617, 3618, 4502, 4502, 4502, 4502,
-    1086, 1237, 2117, 4502, 4083, 4084, 2058, 4067, 2756, 4110, 4502, 4502, 2827, 4502, 561, 562, 563, 564, 4502, 1365,
-    1437, 1930, 2071, 4454, 4455, 4502, 4502, 4502, 4502, 4502, 4502, 4502, 4502, 4502, 4502, 2556, 449, 450, 451, 452,
-    453, 1156, 2050, 4502, 4502, 1066, 2021, 3878, 1243, 3879, 3880, 3881, 3882, 3883, 4128, 2742, 4075, 4285, 4286,
-    1567, 4061, 2185, 1456, 1221, 2257, 933, 2950, 1379, 2466, 2951, 1919, 2952, 2953, 3084, 3085, 4002, 4426, 4427,
-    4501, 2170, 4502, 4502, 4502, 4502, 4502, 4502, 4502, 4502, 3534, 4502, 2865, 4502, 4502, 4502, 3920, 937, 3921,
-    1460, 1951, 783, 784, 3922, 4146, 4502, 4502, 4502, 2083, 1595, 1683, 2645, 3347, 3348, 3735, 3736, 3737, 3971,
-    3972, 3973, 4502, 4502, 4502, 3048, 62, 2817, 4502, 4502, 4502, 4502, 4502, 1194, 4502, 4502, 150, 151, 4502, 4502,
-    4502, 1482, 1807, 3472, 1950, 1699, 1769, 1032, 2038, 1559, 4303, 4502, 2220, 411, 3406, 3325, 2300, 2301, 3544,
-    3545, 291, 2363, 2364, 106, 107, 2878, 2100, 432, 1307, 3518, 1292, 4006, 4164, 4502, 4502, 903, 4502, 1263, 285,
-    69, 2791, 4502, 764, 2208, 4502, 4502, 4502, 4502, 270, 271, 272, 1045, 939, 1497, 1536, 1881, 3214, 2130, 3215,
-    3216, 4354, 2233, 3415, 4355, 1830, 1321, 3689, 3690, 2563, 2402, 905, 2403, 3691, 1628, 3692, 2316, 2317, 2318, 13,
-    14, 2923, 2924, 4502, 4502, 4502, 4502, 4502, 4502, 3192, 2710, 707, 708, 2548, 3170, 924, 2801, 3171, 4502, 4502,
-    1548, 4502, 2936, 4502, 4502, 1270, 1661, 4502, 4502, 4502, 4502, 4502, 4502, 4502, 358, 359, 2157, 2581, 4049,
-    4502, 4502, 1196, 1979, 2615, 3510, 4502, 4502, 4502, 4502, 4502, 4502, 4502, 4502, 4491, 4502, 4502, 4215, 4502,
-    1622, 4502, 742, 743, 2672, 4502, 4502, 2612, 2903, 4502, 4502, 2635, 657, 1394, 4502, 898, 899, 1083, 1654, 4502,
-    4502, 1753, 4502, 4502, 366, 220, 367, 1673, 4502, 4502, 4502, 4502, 4502, 4502, 4502, 4079, 1010, 2820, 1061, 1636,
-    4080, 4502, 4502, 4502, 4502, 4100, 4502, 4313, 2255, 4502, 4502, 4502, 4502, 4502, 4502, 4502, 2431, 4502, 4502,
-    4502, 4502, 4464, 2526, 4465, 4502, 4502, 4502, 4502, 4502, 4502, 3786, 4502, 4502, 4502, 3549, 4502, 1851, 4502,
-    4502, 4502, 4502, 4502, 4502, 4502, 4502, 2759, 4502, 2589, 3890, 1230, 3891, 2744, 3892, 3381, 943, 1337, 2653,
-    3382, 3383, 3384, 1570, 4117, 4502, 4502, 3110, 973, 3111, 3990, 1374, 3991, 1446, 2469, 4436, 3552, 1578, 4437,
-    997, 4350, 4351, 3532, 1696, 4502, 4502, 4502, 4502, 182, 183, 1163, 4502, 1803, 1911, 4502, 1014, 2492, 4502, 2022,
-    2613, 1592, 1244, 3729, 3730, 3731, 3438, 3439, 4135, 2163, 1109, 2086, 4479, 4502, 3353, 2975, 3354, 3923, 3924,
-    3925, 3926, 3927, 1432, 3928, 4408, 3091, 2777, 3030, 3031, 1741, 2925, 1894, 3032, 3033, 3034, 3288, 3464, 1099,
-    2836, 1072, 1878, 850, 3465, 4409, 4502, 4502, 4502, 330, 331, 1762, 2707, 4035, 4036, 4502, 2223, 4153, 2661, 1617,
-    2312, 2313, 4502, 4502, 4502, 664, 665, 4502, 4502, 4502, 86, 437, 1141, 1411, 4502, 4502, 4502, 4502, 4502, 4502,
-    4502, 1256, 4502, 4502, 3217, 4502, 4502, 4502, 161, 162, 828, 829, 289, 830, 1686, 3279, 941, 1722, 1290, 4502,
-    2149, 2854, 4304, 4502, 2244, 2823, 4201, 4502, 1316, 2276, 2277, 831, 832, 681, 912, 2278, 2279, 603, 604, 423,
-    605, 15, 16, 986, 1131, 1293, 1298, 993, 307, 308, 2361, 2362, 1598, 2508, 2651, 2535, 2049, 925, 2708, 2875, 3392,
-    3324, 1490, 2125, 3393, 2929, 4009, 1019, 4027, 2131, 2499, 3547, 4028, 76, 4502, 2591, 4502, 412, 1874, 2586, 3129,
-    3130, 4052, 1209, 2413, 2414, 2415, 2416, 1017, 2417, 3, 4, 4502, 4502, 4502, 4502, 4502, 4502, 4502, 4502, 3146,
-    3147, 705, 706, 1913, 2543, 3148, 1191, 3149, 2456, 3308, 1543, 1389, 662, 2728, 1659, 2107, 3608, 3609, 3610, 3611,
-    4502, 4502, 2204, 2619, 4502, 4502, 4502, 4502, 4502, 4502, 4502, 4502, 4502, 1347, 4502, 4502, 1514, 39, 40, 4249,
-    4502, 3226, 4502, 4502, 4085, 4086, 4087, 64, 1177, 882, 883, 884, 2329, 4088, 4089, 215, 216, 2605, 4502, 4502,
-    4502, 4502, 4502, 4502, 4502, 4502, 4502, 4502, 4502, 1746, 4502, 210, 4502, 4502, 1670, 4502, 4502, 4502, 4502,
-    4502, 4502, 4502, 3377, 3378, 4502, 4502, 2027, 1643, 4502, 1233, 1471, 4502, 4502, 969, 3136, 2062, 1943, 4106,
-    635, 636, 4322, 3551, 4323, 503, 504, 505, 2450, 1799, 1354, 4446, 4447, 4502, 2596, 4502, 4502, 4502, 4308, 4502,
-    4502, 4502, 4502, 4502, 4502, 4502, 1093, 445, 1152, 4502, 3723, 3724, 2842, 3725, 4502, 2760, 50, 2017, 3857, 1351,
-    3858, 2747, 3859, 3860, 3861, 2666, 4124, 4277, 3390, 3391, 1563, 4278, 4502, 1452, 2962, 3998, 4502, 4502, 1383,
-    1443, 2462, 1923, 3459, 3056, 3057, 3460, 3461, 4418, 3804, 3805, 1679, 287, 3806, 4419, 4502, 1097, 4502, 1073,
-    4502, 4502, 4502, 4502, 654, 893, 2521, 3912, 3913, 1996, 4502, 1934, 766, 4142, 4502, 4502, 4502, 4502, 4490, 2079,
-    4502, 4502, 3342, 4502, 3298, 2267, 2268, 2269, 1786, 3958, 1406, 2480, 3959, 3960, 3003, 3004, 3005, 3006, 3007,
-    298, 3008, 3825, 1353, 755, 3683, 3284, 3684, 3685, 3826, 877, 878, 879, 2772, 1738, 1710, 2495, 3827, 3828, 3829,
-    3830, 3961, 1964, 2216, 4160, 2654, 1946, 4293, 1839, 2093, 53, 796, 684, 98, 99, 4019, 4020, 428, 4272, 1148, 4294,
-    4502, 4502, 4502, 4502, 4502, 4502, 4502, 261, 4502, 4502, 4502, 3104, 4502, 1100, 481, 482, 483, 484, 485, 486,
-    931, 1174, 1175, 1493, 1281, 1532, 1716, 1940, 1992, 2142, 2230, 3420, 3421, 3506, 1317, 4378, 3137, 2575, 454, 455,
-    456, 457, 458, 459, 2378, 2379, 1138, 2380, 2381, 2382, 2626, 4016, 4379, 4502, 2519, 2813, 4502, 3603, 3604, 714,
-    3605, 2552, 1000, 3155, 3156, 3157, 3158, 3159, 1546, 3160, 2721, 2940, 3606, 3607, 4502, 4502, 4502, 3250, 4502,
-    70, 4502, 4502, 4502, 4502, 4502, 4502, 4502, 2175, 4502, 1200, 4502, 1625, 132, 2862, 4502, 3211, 1866, 4502, 4502,
-    4502, 4502, 4502, 4502, 1744, 4211, 4502, 4502, 4502, 750, 751, 2668, 4502, 4502, 2608, 2909, 2910, 1732, 2681, 661,
-    1398, 2911, 1650, 2912, 2913, 4502, 4502, 4502, 4502, 4502, 2198, 374, 224, 375, 4081, 4082, 4334, 916, 4335, 1051,
-    1182, 1345, 4502, 2633, 1509, 4502, 1632, 4248, 4502, 4502, 4502, 1105, 4096, 4502, 3139, 1953, 1835, 2722, 3140,
-    4320, 4321, 4502, 4502, 4502, 3235, 72, 4502, 4502, 4502, 4502, 1856, 3244, 4502, 4502, 4502, 4502, 3717, 3718,
-    3719, 4502, 4502, 4502, 4502, 4502, 4502, 4502, 1827, 4502, 4502, 4502, 2837, 4502, 4502, 4502, 4256, 4502, 4502,
-    1226, 4502, 3237, 352, 353, 2428, 2429, 2430, 633, 634, 3455, 3456, 692, 919, 527, 528, 529, 3116, 1362, 3117, 1434,
-    1931, 3457, 4071, 4113, 4428, 4429, 4502, 3792, 3793, 1692, 3794, 4502, 4502, 2555, 4502, 4502, 1159, 4502, 790,
-    1907, 4502, 799, 4502, 4502, 2018, 4502, 4502, 1240, 3252, 777, 4502, 4131, 4502, 4502, 4502, 4502, 4502, 4502,
-    4502, 4502, 2946, 1222, 1459, 970, 1815, 264, 265, 1376, 326, 1421, 2483, 2947, 2948, 2949, 2781, 360, 361, 3071,
-    3072, 3095, 3268, 2918, 4001, 4400, 2893, 2111, 843, 844, 3246, 4344, 4345, 2119, 1766, 4039, 2704, 1506, 4040,
-    1938, 1967, 4149, 2741, 4401, 1551, 4502, 2080, 4502, 2644, 4502, 673, 3343, 3344, 4502, 4502, 4502, 4502, 1415,
-    4502, 4502, 4502, 2825, 3040, 3041, 992, 3042, 3043, 4502, 3502, 3503, 4502, 2214, 3316, 152, 153, 3275, 2899, 2900,
-    3446, 3447, 4388, 1947, 1704, 297, 1286, 2145, 415, 416, 417, 418, 956, 1690, 1818, 2240, 2310, 2311, 839, 795, 682,
-    683, 840, 909, 591, 592, 419, 593, 1126, 1127, 1302, 1834, 1987, 2103, 2370, 2371, 2372, 2373, 2374, 2375, 2435,
-    2436, 2512, 2539, 2030, 2616, 2762, 2858, 3099, 1486, 1533, 3401, 1717, 3594, 3595, 3596, 3597, 3598, 4005, 4167,
-    1596, 2811, 123, 124, 125, 126, 1326, 2395, 2566, 4178, 1213, 4185, 4228, 4360, 4361, 4389, 2921, 9, 10, 2922, 4502,
-    4502, 2713, 4502, 4502, 4502, 4241, 347, 3189, 712, 713, 2547, 3176, 3190, 3191, 4502, 4502, 4502, 1539, 4502, 4502,
-    2774, 4502, 4502, 1080, 4502, 4502, 4502, 1606, 4502, 4502, 3001, 4502, 4502, 4502, 2584, 4502, 918, 1976, 1185,
-    395, 396, 1626, 2630, 4502, 1898, 4253, 4502, 4502, 3230, 4502, 4494, 4502, 4502, 4218, 4502, 4502, 732, 733, 2673,
-    3310, 2046, 4502, 2601, 4502, 4502, 4502, 2528, 4502, 4502, 4502, 894, 895, 1023, 1024, 1653, 2291, 1758, 1176,
-    2292, 2293, 2044, 1672, 2637, 3233, 3452, 4502, 4502, 4502, 4502, 4502, 1009, 1516, 4502, 1060, 1639, 3247, 1467,
-    1116, 1117, 1219, 2069, 3454, 4103, 2197, 2627, 642, 4073, 1103, 4267, 4268, 518, 2729, 2454, 4502, 4502, 58, 1357,
-    2693, 2694, 3245, 3515, 2196, 4470, 4271, 4471, 2000, 3765, 3766, 3767, 2638, 3768, 1848, 3769, 3770, 498, 2334,
-    2335, 4502, 2682, 4502, 4502, 2560, 2013, 3908, 1334, 3909, 2743, 4502, 4120, 4502, 235, 1340, 274, 275, 276, 1505,
-    1581, 3674, 570, 571, 572, 573, 574, 1371, 1447, 2474, 52, 2809, 2988, 3065, 3066, 3675, 3676, 3817, 1697, 3818,
-    3819, 3820, 260, 2160, 1003, 1004, 2696, 3213, 1908, 3821, 3994, 787, 4442, 2525, 4443, 252, 253, 1589, 1924, 770,
-    3207, 3208, 1611, 3209, 3210, 3434, 2091, 2561, 3435, 698, 2828, 2965, 2966, 979, 3436, 3437, 3497, 1425, 400, 401,
-    402, 403, 404, 405, 406, 407, 1811, 614, 615, 616, 1778, 2476, 2732, 2769, 3025, 1860, 859, 860, 861, 862, 863,
-    1706, 1761, 1252, 2005, 1971, 201, 2719, 1960, 947, 2228, 2658, 1612, 3026, 3027, 3028, 3029, 2889, 687, 87, 88,
-    2890, 2690, 3090, 3580, 1144, 1412, 3581, 312, 313, 3582, 3583, 3584, 1255, 3585, 3586, 1886, 3587, 3843, 3222,
-    3278, 172, 173, 820, 821, 822, 1043, 1689, 3844, 1727, 3845, 1277, 3941, 2138, 2853, 3942, 3943, 2241, 949, 3425,
-    2296, 2297, 1937, 3944, 2571, 2389, 2390, 2652, 3097, 3488, 581, 582, 1016, 1134, 1297, 1775, 3258, 3945, 4012,
-    4029, 4030, 4138, 960, 4156, 4186, 2503, 721, 722, 2530, 4187, 4236, 4370, 4371, 4476, 4477, 1491, 1526, 4478, 2168,
-    2928, 228, 4482, 4483, 4502, 4502, 245, 1620, 4502, 4502, 2783, 4502, 4502, 3270, 4056, 4502, 4502, 1204, 2418,
-    2419, 2420, 2421, 1791, 2422, 4502, 4502, 4502, 4502, 4502, 4502, 4502, 1549, 4502, 2700, 3200, 3714, 3715, 3305,
-    2677, 338, 339, 194, 195, 3273, 3716, 4502, 1386, 4502, 4502, 2110, 4502, 4502, 4502, 4502, 4502, 1041, 4270, 4502,
-    382, 383, 4502, 4502, 4502, 4502, 3301, 4502, 1178, 1348, 4502, 4502, 4502, 1513, 35, 36, 4502, 4502, 4502, 4502,
-    4502, 1927, 968, 4092, 1957, 885, 886, 1561, 4502, 4502, 926, 1475, 4502, 4502, 4502, 4502, 4502, 4502, 4502, 2844,
-    3240, 4502, 4502, 4502, 256, 257, 1400, 1751, 209, 492, 493, 1111, 4204, 4205, 1247, 4502, 4502, 4502, 4502, 2841,
-    1005, 4502, 4502, 4502, 4502, 4502, 1238, 4502, 3659, 3660, 3661, 2055, 3662, 3663, 641, 2755, 4068, 4109, 694,
-    4502, 554, 555, 556, 557, 558, 559, 560, 1366, 1438, 4452, 3086, 2636, 3087, 4324, 4325, 4453, 4502, 2247, 4502,
-    4502, 4502, 448, 929, 1155, 4502, 4502, 4502, 4502, 4502, 1607, 4502, 2014, 3884, 3885, 1335, 3886, 4502, 4283,
-    4127, 4284, 4502, 4502, 4502, 3496, 4502, 393, 394, 1568, 1455, 2188, 1900, 2961, 3120, 1380, 1424, 2463, 1918,
-    3121, 2167, 3082, 3083, 3264, 3355, 3356, 3357, 288, 2171, 3358, 3359, 3530, 3816, 3997, 4424, 4425, 4500, 2843,
-    765, 4502, 4502, 4041, 3568, 1970, 1461, 3569, 781, 782, 3570, 3571, 3572, 3573, 4042, 4145, 4502, 4502, 4502, 678,
-    679, 3338, 977, 3339, 3980, 1785, 1403, 2481, 3981, 2874, 3982, 4194, 4195, 4502, 4502, 4502, 4502, 4502, 1854, 757,
-    758, 3320, 4502, 4502, 4502, 1044, 2920, 1479, 4502, 4291, 2496, 1700, 1768, 2039, 81, 82, 4173, 4174, 2221, 953,
-    3405, 2655, 1619, 2302, 2303, 3485, 290, 686, 914, 104, 105, 2112, 2099, 431, 1306, 25, 26, 2879, 2880, 2881, 2882,
-    136, 137, 904, 292, 1262, 2790, 2883, 763, 2209, 2902, 3101, 3102, 3103, 3486, 3542, 1075, 1498, 1529, 1713, 1882,
-    2897, 2036, 2139, 1667, 2898, 2234, 190, 3414, 3543, 4021, 1322, 4022, 4063, 4163, 2400, 2401, 1217, 900, 901, 1984,
-    2870, 4292, 1137, 3708, 3709, 3710, 4502, 4502, 4502, 4502, 4502, 4502, 2325, 2326, 2502, 719, 720, 1760, 2551,
-    1069, 2800, 1050, 3165, 3166, 1555, 2624, 2720, 2935, 1664, 1271, 1076, 1077, 3167, 3168, 1602, 3169, 3249, 4502,
-    4502, 4502, 4502, 2580, 4050, 4502, 1980, 4502, 4230, 2614, 4502, 1220, 990, 1863, 606, 607, 608, 1056, 4502, 3512,
-    4502, 963, 1795, 2701, 4214, 740, 741, 2669, 4502, 4502, 4502, 2611, 4502, 4502, 4502, 1395, 656, 2642, 4502, 1649,
-    4502, 1085, 4502, 996, 4502, 1754, 4502, 4502, 368, 219, 369, 4502, 4502, 4502, 4502, 4502, 4502, 4502, 4502, 2821,
-    1520, 240, 982, 281, 282, 1463, 1635, 4502, 4502, 4099, 4502, 68, 2007, 3313, 4502, 4502, 2034, 2678, 4502, 4502,
-    4502, 4502, 4502, 4502, 4502, 4462, 2527, 3241, 4463, 4502, 4502, 4502, 4243, 4244, 3783, 3784, 3785, 134, 135,
-    4502, 1852, 4502, 4502, 4502, 4502, 2692, 4502, 4502, 4502, 2271, 4502, 1108, 3495, 1231, 3893, 3894, 3895, 4116,
-    4502, 4502, 4069, 4502, 1501, 4502, 1571, 4502, 691, 2189, 4502, 3988, 3989, 4502, 1375, 1435, 2470, 4434, 4435,
-    4502, 1579, 1809, 3526, 3527, 4336, 1693, 4337, 4502, 4502, 4502, 4502, 184, 185, 1096, 4502, 1828, 4502, 3537,
-    4502, 2493, 4502, 4502,
+    0, 2265, 172, 1201, 1554, 1896, 1009, 2603, 2863, 3635, 1209, 4674, 4675, 2770, 5565, 5943, 2986, 3697, 5943, 5943,
+    5943, 4082, 4083, 5070, 3159, 2689, 3160, 3161, 5071, 5072, 1732, 2442, 5846, 5847, 4267, 4236, 4237, 4238, 5943,
+    5943, 2322, 4127, 2475, 3798, 4128, 5943, 5943, 5943, 4018, 5943, 2200, 3897, 5943, 5943, 2463, 1101, 1102, 1103,
+    2581, 5437, 4733, 5943, 5943, 2345, 5943, 5943, 5943, 5943, 5943, 2191, 5943, 5943, 3123, 5583, 5943, 3595, 1951,
+    1919, 2948, 2963, 5943, 2314, 3580, 5943, 878, 5943, 5943, 5943, 5943, 1243, 5943, 5943, 580, 5943, 1437, 1719,
+    5943, 5943, 5943, 5943, 5943, 5943, 5943, 5943, 5943, 1562, 5943, 5943, 5943, 4428, 5943, 5943, 3110, 5943, 4484,
+    288, 289, 4525, 5943, 5943, 144, 5834, 1988, 5835, 3983, 2528, 2026, 5943, 1399, 1297, 1592, 2907, 2384, 3049, 3919,
+    2732, 3136, 1218, 3260, 4620, 5601, 3184, 3185, 3186, 3187, 1081, 1082, 1083, 1174, 2890, 3284, 3285, 3739, 790,
+    791, 565, 566, 792, 793, 1427, 1604, 2411, 2813, 3001, 3912, 4271, 4500, 5381, 5472, 1222, 3851, 5473, 5611, 1902,
+    3440, 992, 5612, 3467, 5627, 5745, 5943, 5943, 5943, 5943, 5943, 2289, 1790, 1825, 2905, 5806, 4034, 5807, 5943,
+    3365, 5943, 2840, 3031, 5943, 5943, 5943, 4633, 4634, 3523, 5943, 5943, 5943, 2455, 2137, 2252, 3502, 2705, 2177,
+    3714, 4306, 1511, 3757, 4307, 1811, 2831, 2949, 3671, 4308, 6, 7, 5480, 5943, 5943, 5943, 5943, 5943, 3662, 5943,
+    5943, 5943, 5669, 5943, 5943, 5943, 2494, 929, 930, 3475, 5943, 5943, 2930, 1493, 2657, 5943, 3390, 5943, 1471,
+    1847, 1693, 4466, 5943, 3789, 1961, 5943, 662, 5943, 2667, 5943, 5943, 5943, 5943, 4935, 3104, 3551, 4936, 4937,
+    4938, 4939, 4940, 2693, 2723, 418, 3692, 4941, 4942, 4943, 4944, 4945, 4946, 5943, 5943, 5943, 42, 43, 1327, 5687,
+    5943, 5943, 5943, 5943, 5943, 5943, 5943, 5943, 5652, 5943, 5943, 1495, 2109, 5943, 5943, 5943, 3249, 5943, 5943,
+    5943, 338, 339, 373, 374, 2872, 3392, 3537, 5912, 5913, 5943, 5943, 5943, 5943, 1345, 5943, 5943, 5943, 5943, 2276,
+    2327, 4335, 4336, 5915, 5943, 5943, 5943, 5943, 5943, 1467, 4744, 5943, 3079, 3717, 5943, 5943, 5943, 5943, 5943,
+    5943, 2128, 5943, 2608, 1945, 5701, 2167, 1537, 1775, 5702, 2973, 5943, 4320, 2899, 2639, 5536, 2092, 5501, 5943,
+    5943, 5943, 2044, 5943, 5943, 5943, 665, 666, 667, 668, 669, 1198, 2380, 82, 2399, 3384, 2802, 5884, 3528, 5885,
+    5943, 5943, 5943, 5943, 5943, 5943, 5943, 5943, 4802, 5943, 5943, 5943, 5943, 5943, 5943, 591, 5943, 1451, 5943,
+    5943, 5943, 5943, 5943, 5943, 1276, 5943, 5943, 5943, 50, 138, 2679, 5218, 1576, 2848, 3808, 2400, 5064, 3634, 1205,
+    2631, 5065, 5066, 5219, 1041, 1042, 1043, 1867, 176, 2058, 913, 238, 1754, 2459, 3083, 3707, 4102, 1671, 5220, 1747,
+    5221, 2502, 5222, 2037, 2362, 4212, 4213, 4214, 4482, 5223, 5366, 5554, 5660, 5856, 1983, 2160, 5857, 5943, 5943,
+    2096, 5943, 1190, 4422, 5943, 5943, 5943, 5943, 5943, 5943, 5943, 5943, 5943, 3455, 5943, 375, 171, 376, 2256, 2376,
+    5276, 5277, 4415, 1208, 5572, 5943, 4586, 1370, 105, 2039, 2777, 2987, 1886, 3694, 4587, 4588, 3772, 2298, 1238,
+    4509, 4789, 5339, 1994, 5340, 1710, 3410, 5341, 2219, 5342, 5928, 5943, 151, 5943, 5943, 5943, 5164, 5165, 823, 824,
+    825, 160, 826, 827, 5166, 2207, 4326, 4493, 5167, 2423, 1128, 1129, 1130, 1786, 2586, 3833, 3978, 2014, 5423, 5458,
+    5459, 5943, 1863, 5943, 5943, 1013, 1014, 2545, 2676, 3116, 3592, 5590, 5943, 5943, 2420, 2993, 5943, 5943, 5943,
+    911, 1176, 217, 218, 219, 2532, 5943, 571, 1613, 3063, 1447, 1634, 5943, 5943, 443, 444, 5943, 5943, 5943, 5943,
+    5943, 391, 5943, 5943, 5943, 5943, 2067, 3533, 3106, 5943, 299, 300, 632, 633, 634, 635, 636, 637, 638, 639, 640,
+    1418, 1419, 1797, 1583, 1991, 2027, 130, 2573, 2916, 3034, 3130, 4043, 1214, 4639, 544, 1803, 1621, 4640, 2140,
+    2247, 3507, 3302, 3858, 4641, 3856, 3732, 5415, 5816, 771, 772, 379, 380, 773, 1251, 1278, 1430, 2836, 2234, 3682,
+    5408, 5817, 5920, 5921, 5943, 3876, 5664, 5943, 3439, 183, 1903, 958, 959, 1037, 3462, 1262, 4343, 4344, 3866, 4345,
+    4346, 4347, 1850, 4348, 4349, 4041, 4920, 4921, 1387, 4922, 4923, 4924, 4925, 4926, 5943, 5943, 5943, 5943, 5943,
+    5943, 5943, 4434, 5943, 5943, 5943, 2718, 3330, 2182, 5943, 5943, 1502, 3746, 5943, 3928, 256, 5943, 5943, 5943,
+    5943, 758, 2447, 5943, 3931, 5943, 5943, 5943, 5943, 5943, 2352, 5943, 5639, 4406, 4407, 4408, 978, 979, 5640, 4512,
+    469, 470, 1365, 5641, 316, 317, 318, 1244, 2875, 3540, 1702, 874, 3613, 4005, 1963, 4006, 4007, 1341, 2677, 4008,
+    5943, 5943, 5943, 5943, 3098, 5943, 508, 348, 509, 2663, 3626, 2728, 3627, 1178, 5772, 5773, 1486, 5943, 1649, 5943,
+    5943, 3565, 5943, 5943, 32, 33, 1934, 5443, 5683, 5943, 2737, 5943, 5943, 1369, 2085, 2306, 5526, 5754, 547, 548,
+    1149, 1150, 2110, 3641, 3642, 2940, 79, 4823, 163, 4824, 4825, 4826, 4827, 4828, 5755, 5943, 5943, 5943, 2437, 5943,
+    5943, 5943, 2357, 5943, 5943, 5943, 2328, 5943, 5943, 5633, 5634, 5943, 5943, 5943, 5943, 5943, 1469, 5943, 5943,
+    5943, 3718, 5943, 4524, 5058, 3900, 5059, 5060, 5943, 5943, 5696, 5697, 5943, 1530, 5943, 5943, 5943, 5943, 5943,
+    5543, 2902, 2632, 5943, 5943, 5943, 835, 2116, 5943, 5943, 3886, 5943, 4088, 697, 698, 699, 4291, 5943, 5943, 1666,
+    5943, 1742, 4728, 2512, 4729, 4730, 3685, 3495, 5898, 5899, 5943, 5943, 5943, 5943, 5943, 5943, 5943, 5943, 5943,
+    5943, 3487, 3020, 5943, 5943, 1462, 2369, 5943, 5943, 5943, 47, 5943, 5943, 5943, 5943, 5943, 2599, 5224, 4787,
+    1544, 5225, 97, 98, 447, 1010, 2859, 1302, 3144, 3638, 2774, 5226, 5227, 5228, 3775, 1868, 5229, 5440, 5561, 1526,
+    1761, 2396, 359, 478, 4479, 1680, 5373, 1721, 3417, 2497, 5838, 5839, 3065, 3842, 4251, 4252, 4253, 4312, 5943,
+    5943, 5943, 3071, 2151, 5943, 5943, 5943, 5943, 2204, 1264, 5008, 5009, 5943, 5943, 5786, 5787, 5943, 3988, 5943,
+    5446, 5943, 5943, 3240, 3241, 5943, 1351, 1810, 2187, 2521, 2548, 5579, 3802, 5943, 2122, 1855, 2788, 2960, 2980,
+    3022, 3704, 5935, 4557, 886, 887, 888, 889, 890, 2253, 3765, 4558, 5943, 5943, 1707, 5943, 5943, 5943, 5943, 5943,
+    2268, 148, 5943, 5943, 71, 5199, 2473, 5200, 5201, 5202, 5203, 5204, 5205, 4529, 279, 280, 4496, 5943, 5943, 5943,
+    5943, 1779, 5826, 3987, 4774, 5737, 5738, 5608, 1588, 2620, 3801, 3045, 2403, 5827, 5943, 1048, 2736, 3117, 4624,
+    5432, 3232, 5597, 5943, 4681, 1094, 1095, 1031, 1096, 2568, 2894, 3012, 3293, 3294, 2825, 2929, 1608, 2997, 1422,
+    22, 23, 1577, 4682, 5377, 5943, 5943, 2745, 263, 264, 265, 434, 435, 1564, 2806, 186, 3444, 4908, 4909, 3471, 2615,
+    4910, 4911, 4912, 4913, 5943, 5798, 5799, 1837, 5943, 5943, 5943, 2021, 5943, 1382, 1284, 3027, 5658, 5943, 5943,
+    5943, 5943, 5943, 5943, 3878, 244, 245, 246, 247, 1630, 2133, 2709, 3318, 2173, 1170, 3319, 1515, 3498, 3753, 3675,
+    3909, 5943, 5637, 5638, 5943, 5943, 5943, 5943, 5943, 5943, 5943, 5943, 5943, 5943, 5943, 5943, 5673, 4394, 141,
+    4395, 937, 3664, 4376, 3479, 4377, 4378, 3150, 2653, 5943, 5943, 5943, 5943, 1843, 5943, 5943, 4036, 5943, 3828,
+    5943, 1571, 5943, 1342, 5943, 5943, 5943, 5943, 5943, 5943, 3100, 4120, 4121, 4122, 4123, 4124, 3516, 2727, 1473,
+    4125, 5943, 1501, 1489, 5943, 1930, 3558, 5943, 5943, 5943, 5943, 3962, 3618, 5691, 5943, 5943, 5943, 4439, 74, 75,
+    4283, 2353, 4821, 5648, 5943, 5943, 5943, 960, 961, 5943, 5943, 5943, 2625, 1334, 324, 325, 2868, 2935, 5943, 5943,
+    1695, 3422, 5943, 5943, 5943, 1154, 1285, 1955, 5943, 5943, 5943, 1258, 2280, 2339, 5052, 5053, 5054, 5943, 5943,
+    5943, 5943, 5943, 5943, 5943, 5943, 5943, 3729, 5943, 5943, 5943, 5943, 5943, 1271, 1822, 3874, 3880, 5943, 1941,
+    4465, 5943, 1771, 2670, 2648, 5943, 5943, 2076, 5533, 116, 2643, 3054, 4522, 862, 863, 864, 865, 866, 2048, 2103,
+    683, 684, 685, 686, 687, 688, 85, 1661, 2225, 2684, 3332, 3333, 3334, 4510, 4717, 4718, 3176, 3177, 3860, 4719,
+    4720, 4721, 4738, 5080, 5081, 3572, 5082, 2090, 1354, 2429, 4785, 5083, 3254, 3255, 3256, 5709, 5908, 5909, 5943,
+    5943, 1246, 5943, 5943, 1292, 5272, 1531, 2844, 5273, 5943, 5943, 5550, 5943, 363, 5943, 5943, 402, 403, 404, 5943,
+    1885, 2062, 3785, 917, 4108, 4109, 4285, 1235, 5359, 5360, 3600, 1675, 5943, 1751, 3404, 5880, 5881, 5943, 4225,
+    1879, 4226, 4227, 4228, 4229, 5943, 5943, 5943, 5943, 5943, 5943, 425, 3058, 5943, 311, 312, 1265, 3645, 5943, 2489,
+    5943, 5943, 5943, 5943, 3372, 3373, 3374, 5943, 5943, 2260, 1893, 5943, 2192, 2208, 1002, 2538, 4655, 4656, 4657,
+    4658, 4659, 2781, 3021, 2983, 3264, 3265, 3266, 3698, 923, 3699, 3768, 3891, 4076, 4077, 4078, 4079, 4080, 4081,
+    1729, 4505, 5077, 5323, 5324, 3841, 4154, 4155, 4156, 2319, 2392, 2923, 3793, 804, 805, 806, 807, 808, 2359, 4157,
+    3830, 3896, 4158, 2582, 2441, 1109, 1110, 1111, 1112, 3666, 4159, 4160, 2010, 4161, 4162, 5184, 5185, 3015, 2552,
+    5186, 5187, 2541, 2672, 3128, 5188, 3596, 1856, 2966, 5189, 5190, 5191, 1646, 5325, 4542, 885, 1183, 4543, 5326,
+    5568, 5586, 3621, 5656, 5943, 1444, 1716, 5943, 5943, 5943, 5943, 5943, 5943, 5943, 5943, 5943, 1557, 5943, 5943,
+    5943, 2467, 5943, 2071, 4435, 5943, 5943, 290, 291, 1067, 1068, 1069, 1193, 4487, 5808, 1987, 3980, 5809, 5943,
+    2023, 5943, 5943, 5943, 3046, 2912, 3914, 5943, 5943, 3141, 3868, 3261, 1889, 3262, 3211, 1617, 2516, 2795, 3212,
+    3213, 2974, 3263, 3312, 3313, 2216, 3503, 3744, 2816, 3004, 569, 1599, 1426, 2356, 4469, 4647, 5388, 5613, 5614,
+    5620, 2746, 5943, 90, 5943, 1221, 5668, 5943, 3077, 179, 3443, 5943, 5943, 3466, 2623, 5943, 3815, 5943, 5943, 5943,
+    5943, 5943, 1795, 1830, 5943, 4029, 4603, 1391, 4604, 356, 4605, 4606, 4607, 5943, 5943, 5943, 125, 1924, 5943,
+    5943, 5943, 4303, 2452, 2249, 3521, 2706, 4304, 2178, 4305, 1506, 3351, 3352, 2834, 3353, 3354, 3355, 2372, 2563, 2,
+    3, 3356, 3754, 3967, 4442, 4800, 5943, 5943, 5943, 1229, 5943, 5943, 5943, 5943, 5943, 984, 5943, 4516, 3474, 461,
+    462, 3607, 650, 651, 652, 5943, 1470, 1844, 1690, 3687, 5046, 5047, 5048, 1960, 3013, 5943, 2945, 5943, 5943, 5943,
+    5943, 5943, 4589, 4590, 5943, 2370, 5943, 5943, 5943, 5943, 5943, 5943, 5943, 5943, 5943, 1481, 5943, 1652, 5943,
+    5943, 5943, 1815, 5943, 38, 39, 1326, 3023, 4707, 2741, 4708, 4709, 4710, 543, 4711, 4712, 4713, 1579, 1904, 2106,
+    1049, 1050, 1051, 1052, 1053, 2515, 2536, 336, 337, 371, 372, 4714, 5435, 5522, 5943, 5943, 5943, 5943, 1290, 2210,
+    2066, 5943, 5943, 5943, 5943, 1704, 427, 2273, 5943, 333, 5943, 5943, 5943, 5943, 5943, 5485, 1468, 1549, 1465,
+    3832, 5943, 5943, 5943, 5943, 5943, 1270, 5943, 2123, 5943, 5943, 5943, 5943, 1542, 2170, 5943, 5943, 5943, 5539,
+    5943, 2898, 2636, 5943, 5943, 3816, 848, 849, 850, 2041, 5943, 919, 2416, 368, 369, 126, 727, 728, 729, 730, 731,
+    732, 733, 734, 1670, 2508, 2791, 5451, 5452, 5890, 5891, 3993, 3994, 5115, 5116, 1483, 5117, 3576, 5118, 5119, 5120,
+    594, 1357, 5121, 1458, 3657, 5943, 5943, 5943, 5943, 5943, 5943, 5943, 5943, 137, 2595, 5943, 5943, 1644, 2855,
+    5943, 5943, 5729, 5557, 5730, 5943, 5943, 5503, 5943, 5943, 867, 5943, 523, 524, 2055, 3086, 4062, 1757, 4063, 473,
+    2481, 4064, 4065, 1684, 1725, 2519, 3397, 2501, 2089, 4294, 4207, 3846, 4208, 4209, 4210, 4211, 4295, 4315, 4475,
+    2155, 4481, 4573, 4574, 3061, 2214, 4815, 5150, 205, 206, 5151, 5152, 4471, 5153, 3925, 926, 2804, 3992, 5154, 5369,
+    2255, 2561, 1639, 1777, 5449, 2505, 1001, 5470, 5471, 5575, 5862, 5863, 5929, 5938, 5939, 2975, 2976, 4897, 4898,
+    4551, 896, 4552, 343, 2301, 1376, 3078, 517, 518, 448, 449, 1711, 2364, 2761, 3415, 3761, 3935, 152, 4205, 4899,
+    4900, 5350, 5351, 5352, 818, 819, 155, 820, 821, 822, 5940, 270, 271, 4492, 5943, 5943, 5943, 1783, 5943, 5943,
+    3975, 1203, 3430, 2004, 2351, 5602, 1294, 5603, 1860, 1498, 5943, 5943, 5943, 424, 5593, 5943, 3589, 3220, 3221,
+    2417, 3222, 5943, 4000, 1035, 3947, 906, 224, 225, 3948, 3949, 2821, 2883, 574, 1612, 3248, 28, 29, 5396, 4262,
+    5397, 5943, 5943, 5943, 5943, 5943, 1568, 420, 5943, 5943, 5943, 5943, 995, 2068, 4594, 4595, 4596, 5943, 5943,
+    5943, 5943, 5943, 5822, 5823, 1798, 1833, 3091, 2017, 3019, 1401, 131, 1586, 3039, 3092, 1974, 3380, 5657, 3134,
+    4638, 5943, 5943, 602, 5943, 1626, 2145, 2244, 3510, 614, 615, 616, 2565, 1519, 3323, 3324, 3325, 3679, 3737, 4798,
+    5943, 1433, 1912, 2361, 5943, 5943, 5943, 5943, 5943, 5943, 5943, 5943, 1220, 5943, 5943, 5943, 3434, 3659, 943,
+    944, 4360, 3483, 4361, 4362, 5040, 5041, 5042, 5943, 5943, 5943, 3556, 2755, 5943, 194, 3859, 1388, 1966, 4040,
+    5943, 5943, 5943, 5943, 5943, 5943, 1906, 5943, 5943, 3847, 5943, 5943, 5943, 5943, 3512, 2715, 5478, 4699, 4700,
+    1505, 2557, 3366, 1926, 3749, 4701, 4702, 5943, 5943, 2444, 1318, 3958, 5943, 5943, 5943, 5943, 61, 62, 63, 1225,
+    2164, 2310, 2956, 1948, 3650, 968, 969, 5644, 3603, 5933, 5943, 5943, 3543, 2880, 4004, 5943, 5943, 3491, 1699, 869,
+    5943, 5943, 239, 240, 2839, 5943, 446, 5434, 5943, 5943, 2335, 5943, 5943, 5943, 502, 503, 347, 3450, 5770, 1616,
+    2958, 5771, 5943, 5943, 3725, 5943, 1978, 5943, 4319, 5943, 3884, 5943, 364, 5943, 5677, 408, 409, 1767, 1937, 5678,
+    91, 5943, 4996, 2080, 4997, 4998, 2535, 5529, 2099, 5749, 5943, 5943, 2052, 2229, 2613, 5943, 5943, 5943, 5943,
+    5943, 5943, 5943, 5943, 5943, 5900, 5901, 5943, 4452, 1199, 5943, 5943, 5943, 4805, 4806, 5943, 5100, 5101, 5102,
+    5103, 5104, 5105, 5106, 5107, 494, 495, 5943, 5425, 2405, 5943, 5943, 3624, 110, 2121, 1167, 3893, 5401, 5943, 5943,
+    5258, 5259, 5260, 5261, 5262, 5943, 5943, 480, 481, 2269, 5546, 1642, 2633, 2703, 5497, 1805, 5739, 1875, 3782,
+    4767, 4768, 4769, 719, 720, 146, 721, 722, 723, 724, 725, 726, 1663, 1739, 2513, 3400, 1883, 4289, 4290, 4770, 4771,
+    5414, 5134, 5135, 1997, 2768, 5136, 5137, 5740, 5768, 2292, 303, 304, 5769, 5872, 5873, 2422, 2485, 5943, 5943,
+    5943, 5943, 5943, 5943, 1330, 2264, 2604, 1897, 1569, 2862, 5943, 1007, 1008, 3636, 4671, 1301, 4672, 4673, 5564,
+    5943, 5943, 5943, 5943, 5943, 5943, 5943, 5943, 5943, 3162, 1375, 5305, 5306, 5307, 5308, 1733, 452, 3418, 5309,
+    4266, 5844, 4233, 4234, 3525, 4235, 2323, 2927, 2476, 3797, 4113, 2150, 5845, 5943, 4017, 4281, 2199, 5943, 5943,
+    5943, 2469, 1099, 1100, 5780, 5781, 5943, 5943, 5943, 5943, 2344, 5943, 5943, 5654, 5943, 1350, 1787, 2190, 5943,
+    3124, 5474, 5475, 5582, 207, 1918, 5943, 5943, 5943, 5943, 2315, 5943, 5943, 895, 5943, 3762, 5943, 5943, 5943,
+    5943, 579, 5943, 1440, 1720, 5943, 5943, 5943, 5943, 5943, 5943, 5943, 5943, 5943, 1561, 5943, 5943, 5943, 5943,
+    4429, 5943, 3111, 4279, 5943, 281, 282, 5943, 5943, 5943, 143, 1780, 5832, 5833, 3984, 2529, 2005, 4818, 1400, 1591,
+    3918, 2908, 2388, 235, 1980, 2731, 3042, 1217, 3137, 3861, 4619, 3188, 3189, 3190, 3191, 1084, 1085, 1086, 1087,
+    2889, 3192, 3193, 3282, 3283, 786, 787, 564, 788, 789, 18, 19, 1421, 1603, 1614, 2412, 2895, 1160, 3000, 428, 429,
+    2946, 2807, 3740, 3447, 3850, 994, 3622, 3470, 3910, 5034, 5035, 5036, 5384, 5600, 5610, 2288, 1791, 1826, 5746,
+    5804, 4033, 5805, 5943, 1283, 5943, 3032, 5943, 5943, 4692, 4693, 5943, 4630, 4631, 4632, 5943, 5943, 553, 2138,
+    2456, 3501, 2710, 3321, 2174, 3322, 1510, 3908, 5481, 2830, 1597, 2812, 2957, 3672, 5943, 5943, 5943, 5943, 5943,
+    5943, 5943, 5943, 3663, 5943, 4782, 4783, 5670, 5943, 4390, 4391, 4392, 927, 928, 2495, 3478, 4382, 4383, 1492,
+    2656, 1311, 4393, 3391, 1840, 5943, 1694, 5943, 195, 5943, 1969, 5943, 5943, 5943, 5943, 5943, 5943, 5943, 5943,
+    5943, 5943, 3105, 3550, 4114, 4115, 4116, 4117, 4118, 1475, 419, 2720, 3691, 4119, 1316, 5943, 5943, 4990, 4991,
+    4992, 5943, 5943, 1321, 5688, 5943, 5943, 5943, 4438, 5943, 64, 65, 66, 4282, 5651, 5943, 5943, 1521, 1135, 966,
+    967, 1136, 1137, 5079, 2932, 5943, 321, 322, 323, 2873, 3536, 5836, 5837, 5943, 5943, 5943, 3923, 5943, 5943, 5943,
+    5943, 5943, 5943, 5943, 2277, 2336, 5914, 2094, 5943, 5943, 5943, 5943, 2790, 5943, 1466, 1553, 5943, 5943, 3726,
+    5943, 5943, 5943, 2931, 5943, 5943, 3420, 2127, 5943, 1944, 2609, 2166, 1538, 1776, 4761, 2994, 4762, 2075, 4763,
+    2640, 4764, 3562, 2309, 856, 5535, 5703, 2045, 5704, 5943, 4499, 5943, 5943, 5943, 3385, 5943, 5943, 583, 1658,
+    2381, 3564, 2801, 5943, 1291, 3527, 5943, 5943, 5943, 5943, 5741, 5943, 2577, 5943, 5943, 5943, 5943, 5413, 5943,
+    5943, 2426, 584, 585, 586, 587, 588, 589, 590, 653, 654, 1134, 1454, 3619, 3892, 49, 2591, 2680, 4879, 1635, 2851,
+    3811, 2401, 4880, 3631, 2646, 4881, 4882, 4883, 4884, 1038, 1039, 1040, 1876, 2059, 190, 912, 3082, 3370, 3371,
+    3783, 4092, 4093, 4094, 191, 1672, 1744, 3393, 4095, 2038, 2996, 3869, 4096, 4097, 4098, 4099, 4100, 4101, 4220,
+    2867, 1984, 2159, 4221, 3057, 4222, 383, 2120, 4223, 4224, 5263, 5264, 5265, 5266, 5267, 5365, 1029, 5491, 1247,
+    2570, 3456, 2259, 170, 1890, 2484, 4741, 1006, 3813, 4742, 4650, 4651, 4652, 4653, 2780, 4654, 104, 2988, 3267,
+    1887, 3268, 3269, 3270, 3271, 2297, 3272, 1195, 3273, 3695, 3773, 4506, 1730, 3411, 5278, 5279, 5280, 4147, 4148,
+    4149, 4150, 4151, 4152, 2920, 2303, 801, 802, 803, 159, 3335, 2698, 3336, 2206, 3337, 3787, 4153, 129, 1123, 1124,
+    1125, 1126, 1127, 2424, 3979, 2015, 4430, 5335, 5336, 5337, 5338, 5460, 5461, 1012, 5493, 2546, 2675, 3125, 3593,
+    4628, 1917, 1632, 2421, 4629, 5553, 5571, 5589, 910, 5721, 214, 215, 216, 1490, 5722, 5854, 570, 5855, 1446, 5943,
+    5943, 5943, 441, 442, 4532, 3377, 3378, 3379, 4533, 1556, 398, 5943, 5943, 5943, 5943, 2072, 5943, 5943, 5943, 301,
+    302, 623, 624, 625, 626, 627, 628, 629, 630, 631, 1055, 1056, 1057, 1058, 1305, 1405, 133, 1415, 1416, 516, 1417,
+    1215, 1582, 1950, 1990, 2028, 1622, 2141, 2248, 2574, 2913, 3035, 3149, 3195, 3196, 3197, 3198, 767, 768, 769, 770,
+    1598, 1250, 1429, 1705, 1025, 2767, 2235, 2149, 2819, 3199, 87, 3200, 3301, 3506, 3733, 3857, 184, 3438, 953, 954,
+    955, 956, 957, 3582, 3877, 3865, 1312, 3913, 4324, 4325, 4502, 2751, 4504, 4028, 4646, 1392, 352, 4781, 5391, 5404,
+    5621, 5622, 5623, 5665, 113, 5814, 4987, 4988, 3844, 4989, 5489, 5815, 5943, 2719, 5943, 5943, 5943, 1509, 3747,
+    5943, 5943, 5943, 5943, 5943, 5943, 5943, 2448, 3014, 5943, 3930, 5943, 2671, 5943, 5943, 1367, 5943, 2952, 5943,
+    3646, 3448, 3647, 4403, 976, 977, 3826, 4404, 467, 468, 4405, 4513, 2876, 2995, 5943, 5943, 3583, 1687, 873, 2215,
+    3690, 5943, 5943, 5943, 5943, 426, 2688, 5943, 5943, 5943, 5943, 5943, 5943, 510, 511, 351, 2664, 5943, 5943, 5943,
+    5943, 4752, 4753, 1487, 4754, 4755, 4756, 4757, 5943, 5943, 1814, 34, 35, 1328, 1933, 4046, 5684, 5943, 5943, 5943,
+    2307, 2084, 1230, 4333, 4334, 545, 546, 1146, 1147, 1046, 1047, 1148, 1527, 77, 2111, 2941, 3554, 1570, 5505, 5506,
+    2562, 3381, 5507, 3711, 5508, 2438, 4448, 5525, 5756, 5757, 4864, 4865, 2270, 2329, 232, 233, 234, 332, 658, 4866,
+    4867, 3792, 4868, 4869, 4870, 4871, 5943, 3719, 46, 5943, 5943, 3901, 1163, 5943, 5943, 5943, 5943, 5698, 5943,
+    2169, 1539, 5943, 5943, 5943, 486, 487, 2901, 1299, 2637, 5542, 5943, 829, 830, 831, 832, 833, 834, 921, 748, 749,
+    750, 751, 752, 2117, 1667, 3819, 1743, 3888, 2509, 2792, 4090, 4091, 5896, 5897, 5943, 5943, 5943, 5943, 4813, 5943,
+    5943, 660, 5943, 5943, 5943, 5943, 3490, 5943, 2588, 1461, 5943, 5943, 5943, 5943, 5943, 5943, 5943, 5943, 5943,
+    5943, 2600, 5230, 5231, 1545, 5232, 2858, 95, 96, 3145, 5233, 5234, 5235, 5236, 2773, 5237, 5560, 5943, 3776, 1869,
+    5943, 3085, 4059, 1760, 2397, 3157, 358, 4060, 4061, 1681, 5376, 1722, 450, 3398, 5441, 2064, 3970, 4246, 4247,
+    4248, 4249, 4250, 5943, 5943, 5943, 5943, 2154, 5943, 5943, 5943, 5943, 1361, 2203, 5943, 5943, 5943, 5943, 5788,
+    5789, 3926, 5943, 3989, 5943, 5943, 111, 1859, 3242, 3243, 1752, 2186, 3244, 1022, 1023, 2525, 3653, 1981, 3073,
+    5438, 2787, 5578, 2981, 5943, 3579, 3701, 5943, 2590, 5943, 3758, 5943, 1239, 5347, 5348, 5349, 2363, 5943, 1708,
+    5943, 5943, 5424, 5943, 4199, 2283, 149, 4200, 5943, 72, 4684, 4685, 5943, 5943, 5943, 1496, 985, 5943, 4528, 272,
+    273, 274, 4495, 5943, 5943, 5943, 1784, 2386, 5824, 5825, 5943, 5943, 3093, 1587, 1296, 2621, 1861, 3094, 3800,
+    3922, 2735, 3118, 4623, 5596, 5606, 4536, 4779, 5607, 5624, 2893, 5429, 1030, 2569, 3290, 3291, 230, 231, 3292, 92,
+    2810, 577, 1607, 2824, 24, 25, 1578, 2553, 5380, 5403, 5444, 5630, 5631, 266, 267, 405, 1563, 5742, 5943, 187, 5943,
+    4273, 5943, 5417, 5943, 5943, 5943, 5943, 392, 393, 394, 5796, 1838, 4531, 5797, 2460, 2022, 4970, 1383, 4463, 4971,
+    3028, 4972, 4973, 4974, 4975, 4976, 4977, 4978, 4979, 4980, 1631, 2134, 4981, 3007, 3497, 4982, 4983, 1169, 5943,
+    1514, 3734, 5943, 3676, 5943, 3933, 3643, 5398, 12, 13, 5943, 5943, 2236, 5943, 3147, 3148, 5943, 5943, 5943, 5943,
+    5943, 4402, 5943, 2224, 2163, 935, 936, 3482, 4373, 4374, 4375, 3864, 5943, 5943, 5943, 5943, 5943, 5943, 2758,
+    4035, 5943, 3827, 1965, 1572, 5943, 1344, 2742, 5943, 5943, 5943, 1913, 5943, 3101, 5943, 5943, 5943, 5943, 3053,
+    3515, 2696, 2724, 5943, 5943, 2554, 1500, 5943, 1947, 3553, 5943, 5943, 4318, 1450, 5943, 828, 3961, 5943, 5943,
+    5943, 5943, 5943, 5943, 5943, 2368, 1548, 5647, 4578, 2032, 4579, 974, 975, 2241, 3604, 4580, 2936, 4581, 4582,
+    5943, 2869, 4847, 4848, 4849, 661, 1696, 3431, 4850, 4851, 241, 242, 1155, 1347, 1407, 1958, 4852, 2281, 2332, 4853,
+    5766, 5767, 496, 497, 5943, 5943, 5943, 5943, 5943, 5943, 5943, 5943, 3722, 1979, 5943, 5943, 5943, 1274, 1821,
+    3881, 5943, 5943, 1940, 5943, 5943, 1772, 2425, 2647, 2669, 5943, 2079, 5532, 2644, 3055, 3173, 5750, 857, 858, 859,
+    860, 861, 2049, 2104, 678, 679, 680, 681, 682, 2612, 84, 1662, 2685, 3331, 4521, 4615, 5751, 5752, 5906, 5907, 5943,
+    3178, 5676, 5943, 5943, 5943, 5943, 5943, 1373, 3573, 5943, 2091, 2430, 5943, 5943, 5943, 5943, 5943, 5943, 5943,
+    5943, 5943, 5943, 5943, 5943, 5943, 3531, 5249, 5250, 1532, 5251, 2847, 3807, 5943, 5943, 5549, 5943, 362, 5943,
+    2764, 5943, 2118, 5943, 3779, 1872, 2063, 916, 4106, 4107, 5943, 1237, 5356, 5357, 3612, 1676, 5358, 1748, 3405,
+    5878, 5879, 5943, 5943, 1880, 5943, 5943, 5943, 5943, 5943, 5943, 1998, 5943, 5943, 5943, 5943, 5943, 5943, 5943,
+    313, 314, 5025, 5026, 5027, 2377, 2490, 5943, 5943, 5943, 5943, 1248, 3194, 5943, 2263, 174, 1894, 5943, 2861, 2549,
+    5943, 4668, 4669, 1303, 4670, 5567, 2784, 3051, 2984, 5926, 3700, 5927, 5943, 922, 1184, 3769, 4075, 3158, 4561,
+    4562, 4563, 4472, 4564, 1734, 5319, 529, 530, 531, 532, 2220, 3840, 4179, 2320, 2924, 4047, 4048, 4180, 4181, 2360,
+    4182, 4183, 4016, 4184, 3829, 4185, 4186, 4265, 2450, 1105, 1106, 1107, 1108, 2583, 2959, 3665, 1765, 457, 458,
+    2011, 2343, 3654, 4778, 5180, 1017, 2542, 3121, 1211, 5181, 3597, 1857, 1921, 5182, 5183, 5320, 5321, 5322, 4544,
+    881, 882, 883, 884, 3075, 4545, 4546, 582, 4547, 4548, 1443, 1713, 5464, 5465, 2131, 5492, 5585, 3660, 5655, 5662,
+    5715, 1560, 5716, 5850, 5851, 2468, 5943, 4954, 4441, 4955, 292, 293, 1070, 1071, 1072, 1073, 142, 411, 4490, 3981,
+    4956, 4957, 2024, 4958, 1394, 1594, 3917, 2909, 3047, 4959, 4960, 3142, 3872, 1213, 3281, 4616, 4617, 1618, 4618,
+    4961, 2888, 3907, 3310, 3311, 4613, 4614, 3745, 4962, 5387, 2815, 5416, 568, 1602, 1425, 3938, 4470, 4807, 4808,
+    5943, 5943, 5943, 2747, 3017, 430, 431, 5943, 5943, 5409, 1900, 180, 3442, 5943, 5943, 3465, 2628, 5943, 1333, 5943,
+    5943, 5943, 2287, 4537, 1792, 1831, 3025, 3423, 4032, 5943, 1380, 355, 5943, 5943, 5943, 5943, 5943, 5943, 5943,
+    5943, 5943, 5943, 5943, 4300, 2135, 2250, 2453, 2707, 3520, 2179, 4301, 4302, 1513, 3755, 5943, 2833, 44, 45, 2373,
+    1254, 2385, 1322, 3364, 3966, 4795, 4796, 5399, 5943, 5943, 5943, 5943, 4830, 4831, 4412, 4832, 4833, 983, 4834,
+    4835, 3473, 459, 460, 3608, 4517, 1310, 4836, 1, 3388, 1845, 1691, 3686, 4837, 4838, 3799, 1959, 5943, 5943, 5943,
+    2652, 5943, 5943, 759, 760, 761, 3102, 5073, 2660, 5074, 5075, 5943, 5943, 5943, 1474, 5943, 5943, 5943, 1482, 5943,
+    5943, 5943, 3971, 5943, 1818, 5943, 5943, 1325, 3026, 5943, 5943, 4539, 2740, 5943, 5943, 5943, 2088, 5521, 5943,
+    201, 5943, 5943, 2107, 5943, 5943, 5943, 3252, 3253, 4734, 330, 166, 331, 3539, 4735, 5943, 5943, 5943, 5943, 3972,
+    3788, 1288, 1289, 2211, 5943, 5943, 5943, 3076, 2274, 2325, 436, 5937, 5943, 5943, 5943, 5943, 1972, 5943, 5486,
+    5778, 5779, 1464, 5943, 1317, 5943, 5943, 5943, 5943, 1269, 5943, 5943, 5943, 2606, 5699, 5700, 1535, 1773, 2165,
+    5943, 5943, 5538, 5943, 5943, 2641, 5943, 5943, 5943, 844, 845, 846, 847, 2042, 5943, 5943, 366, 367, 675, 676, 677,
+    2378, 83, 3911, 5888, 5889, 236, 237, 2197, 3530, 5943, 5943, 5943, 5016, 5017, 5018, 5019, 5020, 5021, 5943, 5943,
+    3574, 5943, 5943, 1355, 593, 1191, 1457, 5943, 5943, 5943, 5943, 5943, 5943, 5943, 3939, 5943, 52, 136, 2596, 5206,
+    1645, 2854, 103, 5207, 5208, 3155, 3628, 5209, 3598, 5210, 5211, 5556, 5727, 5728, 1865, 521, 522, 1186, 2056, 1756,
+    3081, 2482, 4068, 4069, 4070, 1685, 4476, 1726, 3394, 2500, 2033, 5372, 4206, 3838, 5860, 2522, 5861, 5943, 5142,
+    5143, 5144, 3068, 2158, 5145, 5146, 1753, 3060, 2239, 5147, 5148, 5149, 5450, 5943, 5943, 5943, 5943, 877, 5943,
+    5943, 4044, 3453, 5943, 5943, 2566, 5943, 5943, 5943, 1000, 2506, 5574, 3820, 5943, 5943, 5943, 5943, 5943, 2977,
+    5943, 3705, 5943, 4553, 5943, 5943, 342, 2300, 3163, 3164, 1337, 2762, 2367, 1712, 3165, 3412, 3770, 4947, 4948,
+    4203, 4204, 153, 4949, 4950, 2921, 4951, 421, 814, 815, 816, 474, 817, 987, 2699, 4491, 4952, 4953, 5176, 5177,
+    5178, 5179, 5331, 5332, 3835, 3976, 3427, 2012, 2350, 5333, 2617, 3050, 5334, 5735, 5736, 5943, 2543, 3114, 4627,
+    5592, 5943, 3223, 3224, 2418, 2991, 3225, 4020, 1034, 5943, 5943, 222, 223, 5943, 5943, 2820, 5943, 573, 1412, 1611,
+    5943, 5943, 5943, 4261, 5943, 5943, 5943, 5943, 5943, 5943, 1567, 4745, 4746, 4747, 5943, 5943, 2069, 5943, 3109,
+    5943, 1261, 5943, 5943, 5943, 2885, 5943, 5820, 5821, 1799, 1834, 3089, 3090, 2018, 1585, 1402, 5943, 3040, 2571,
+    1977, 5943, 5943, 3135, 4637, 5943, 5943, 5943, 4791, 1627, 2146, 2245, 2394, 3509, 612, 613, 1171, 3308, 1518,
+    3309, 3730, 774, 775, 384, 776, 777, 1436, 1911, 3680, 4792, 4803, 5390, 4501, 5943, 5943, 5943, 5943, 5943, 5663,
+    5943, 3433, 181, 941, 942, 4357, 3486, 3895, 4358, 4359, 5943, 5943, 5943, 5943, 5943, 1848, 3555, 2754, 2031, 4039,
+    1389, 3854, 5067, 5068, 5069, 5943, 5943, 1878, 2451, 1907, 4461, 5943, 5943, 5943, 4433, 5943, 3382, 3511, 2712,
+    5943, 1180, 5943, 1504, 2558, 3750, 1927, 258, 5943, 5943, 2374, 1252, 2445, 762, 763, 5943, 5943, 4731, 4732, 5943,
+    5932, 5943, 2313, 5643, 3651, 5943, 2001, 4679, 982, 4680, 5943, 5943, 5943, 5943, 5943, 3542, 2098, 2881, 4003,
+    2311, 2496, 1700, 3492, 5943, 5943, 5943, 1954, 5943, 5943, 5943, 5943, 5943, 4790, 5943, 5943, 5943, 5943, 504,
+    505, 346, 2665, 3449, 5943, 5943, 2968, 5943, 5943, 5943, 1315, 1484, 5943, 5943, 5943, 3567, 3171, 4045, 30, 31,
+    1936, 5679, 5680, 1768, 2739, 5943, 5943, 2304, 2083, 4331, 117, 118, 119, 198, 199, 2100, 2409, 2053, 2228, 2483,
+    2534, 3363, 165, 3174, 123, 3175, 4332, 4446, 5013, 5014, 5015, 5419, 2435, 4453, 5528, 5758, 5759, 5943, 5943,
+    5943, 5096, 5097, 5098, 5099, 5411, 5943, 5943, 5943, 5943, 5943, 5943, 5943, 2406, 5943, 5943, 5943, 2130, 3894,
+    1164, 5943, 5943, 5943, 5943, 5692, 5693, 5943, 1528, 2843, 5943, 5943, 482, 483, 488, 489, 1641, 2634, 2794, 2114,
+    1806, 2971, 3969, 4444, 3532, 5545, 5943, 704, 705, 154, 706, 707, 708, 709, 710, 711, 712, 713, 714, 715, 716, 717,
+    718, 1664, 1736, 2700, 3401, 3683, 4288, 4775, 2789, 4776, 5126, 5127, 5128, 305, 306, 1358, 1460, 5129, 1028, 2471,
+    2486, 5130, 5131, 5132, 2918, 3424, 5133, 2605, 5870, 5871, 1575, 2857, 4458, 5943, 5943, 5563, 5943, 1300, 5943,
+    5943, 2772, 5943, 5943, 5943, 5943, 4927, 4575, 4576, 3954, 3955, 4085, 357, 1234, 2691, 387, 388, 1723, 3419, 4086,
+    4087, 4269, 4477, 4242, 4243, 4244, 4245, 4928, 2928, 2477, 3796, 4929, 4930, 4931, 4932, 4280, 4933, 2198, 4934,
+    5295, 5296, 5297, 2470, 5298, 5299, 5300, 5301, 5302, 5303, 109, 2347, 2972, 5304, 5400, 2969, 1802, 2189, 5653,
+    5782, 5783, 3814, 5581, 5842, 4577, 1853, 2786, 2965, 3235, 3236, 2316, 5843, 4540, 892, 893, 894, 3763, 4541, 5943,
+    5943, 578, 2763, 1439, 1717, 4743, 5943, 5943, 5943, 4194, 4195, 4196, 4197, 4198, 5943, 5943, 5943, 5943, 5943,
+    5943, 5943, 4278, 3112, 4527, 283, 284, 285, 4486, 5943, 5943, 1781, 5830, 5831, 3985, 5943, 5943, 453, 454, 1397,
+    1298, 1590, 2006, 1985, 2393, 2404, 2622, 2730, 3043, 3138, 3921, 3226, 3227, 3228, 4622, 1088, 1089, 1090, 1173,
+    900, 2892, 3741, 4829, 2827, 782, 783, 563, 784, 785, 20, 21, 1420, 1606, 1615, 2413, 2743, 2903, 268, 269, 3003,
+    1409, 1410, 1411, 2808, 3446, 53, 993, 3849, 3469, 2589, 5061, 5062, 5063, 5383, 5599, 2291, 2464, 1827, 2611, 5615,
+    5628, 5629, 1384, 4464, 5747, 3033, 5802, 5803, 5943, 5943, 5943, 5943, 5943, 5943, 252, 253, 254, 255, 552, 1628,
+    2457, 2711, 2175, 3500, 1517, 5482, 5943, 2829, 3673, 3934, 1281, 5943, 5943, 8, 9, 5943, 5943, 5943, 5943, 5943,
+    5943, 5943, 5943, 1227, 5943, 5671, 4384, 4385, 4386, 4387, 4388, 3477, 4381, 4389, 4413, 1491, 4414, 1309, 5943,
+    4788, 1841, 5943, 2757, 5943, 196, 1352, 3837, 1968, 5943, 5943, 5943, 5943, 5943, 5943, 655, 1908, 5943, 3099,
+    5943, 5943, 5943, 5943, 5943, 3518, 2695, 2721, 5943, 5943, 2555, 5943, 5943, 1653, 5943, 5943, 4317, 5943, 5943,
+    2472, 1054, 1320, 3964, 5689, 4437, 5943, 67, 68, 519, 520, 5010, 5011, 5012, 5650, 5943, 964, 965, 4519, 5436,
+    5943, 2627, 2933, 3535, 2874, 3245, 1197, 5943, 3451, 5792, 5793, 5943, 5943, 1408, 3080, 3929, 5943, 5943, 3052,
+    1971, 5943, 2278, 2337, 5943, 2095, 5943, 5943, 5943, 5943, 5943, 4431, 5487, 1552, 5943, 5943, 3727, 5943, 5943,
+    5943, 5943, 2293, 5943, 1820, 2126, 3421, 5705, 1943, 5706, 1769, 2284, 5943, 3005, 5943, 5410, 5943, 5943, 2645,
+    3151, 2524, 3152, 854, 855, 3153, 2046, 200, 1788, 2227, 690, 127, 691, 692, 693, 561, 694, 695, 696, 1659, 2382,
+    202, 2800, 3386, 3526, 3561, 3708, 4503, 5402, 2578, 5092, 5093, 5094, 5095, 2896, 5427, 5499, 2427, 1353, 5713,
+    2254, 1453, 3259, 1378, 3620, 5714, 3616, 5943, 1275, 3823, 5943, 48, 140, 2592, 2681, 1636, 2850, 3810, 2402, 4583,
+    3632, 1207, 361, 4584, 4585, 4914, 4915, 1807, 4916, 1877, 2060, 3375, 3376, 4105, 4917, 4918, 175, 471, 4919, 3617,
+    1673, 1745, 3406, 4538, 5268, 3008, 3870, 4218, 4219, 5269, 5368, 5405, 5552, 5719, 5720, 5852, 5853, 5943, 5943,
+    5943, 5943, 2147, 5943, 5943, 5943, 5943, 5943, 5943, 5943, 5943, 5943, 1026, 5943, 5943, 3457, 3848, 2258, 169,
+    1891, 2492, 2194, 1004, 1005, 2864, 3812, 4649, 5281, 5282, 2779, 5283, 5570, 2989, 3274, 1888, 3275, 1185, 925,
+    3276, 2296, 3277, 1241, 3278, 3279, 3280, 3766, 1731, 3408, 4074, 4507, 2217, 5315, 4138, 4139, 4140, 4141, 2390,
+    2925, 3795, 4142, 4143, 2579, 158, 3072, 4144, 4145, 2205, 4146, 4328, 1331, 2433, 1118, 1119, 1120, 1121, 1122,
+    2584, 5197, 2008, 4822, 5198, 5316, 1293, 5317, 5318, 327, 5936, 5943, 2674, 3126, 5588, 5943, 3590, 1916, 1633,
+    5943, 5943, 5943, 2317, 3950, 3951, 909, 211, 212, 213, 5943, 5943, 5943, 5943, 5943, 1442, 5943, 5943, 5943, 439,
+    440, 5055, 5056, 5057, 5943, 5943, 5943, 5943, 5943, 5943, 2465, 5943, 5943, 5943, 5943, 5943, 294, 295, 296, 617,
+    618, 619, 620, 621, 622, 1059, 1060, 1061, 1062, 1406, 1581, 2029, 2575, 2914, 3036, 4497, 4608, 3131, 4645, 4722,
+    4723, 4724, 3205, 1623, 2142, 3206, 3207, 3505, 2539, 3316, 3317, 3742, 4725, 4726, 2818, 2797, 4727, 4467, 5386,
+    1432, 2354, 3855, 5619, 5812, 5813, 5924, 5925, 5943, 88, 2034, 1224, 4786, 5666, 5943, 475, 3437, 952, 5943, 3464,
+    1364, 3581, 5943, 5943, 5943, 5943, 5943, 5943, 1828, 5943, 2750, 5943, 5943, 3064, 1393, 354, 5943, 5943, 5943,
+    5943, 5943, 5943, 5943, 5943, 5943, 5943, 5943, 5943, 4298, 4299, 5943, 4473, 2716, 5943, 2180, 5943, 1508, 5943,
+    5943, 5943, 5943, 5943, 5005, 5006, 5007, 2449, 664, 5943, 5943, 5943, 5943, 5943, 5943, 5943, 5943, 1228, 2953,
+    5943, 4410, 4411, 5943, 5943, 132, 4514, 3609, 465, 466, 3825, 5943, 2877, 4015, 5943, 5943, 5943, 1688, 872, 2223,
+    3689, 5943, 5943, 5943, 5943, 445, 2697, 5943, 5943, 5943, 5943, 5943, 5943, 512, 513, 350, 2661, 3338, 2682, 5484,
+    2479, 5943, 5943, 5943, 5943, 5943, 1647, 5943, 5943, 5943, 1813, 5943, 5943, 5685, 1932, 5943, 5943, 4773, 5943,
+    5943, 1949, 5524, 2087, 5943, 5943, 5943, 1824, 1144, 1145, 1044, 1045, 2112, 2942, 5943, 5943, 328, 329, 5943,
+    5943, 5943, 5943, 5943, 5943, 3712, 5943, 2439, 3867, 4449, 5943, 5943, 5943, 1257, 5943, 1655, 2271, 2330, 5943,
+    5943, 659, 5943, 5943, 5943, 5943, 1472, 1551, 5943, 5943, 3720, 4901, 4902, 4903, 3902, 4904, 4905, 2125, 4906,
+    4907, 5426, 5943, 2168, 1349, 1540, 5943, 3016, 5943, 5541, 5514, 2638, 5515, 5494, 2766, 3818, 5943, 5943, 5943,
+    5943, 3889, 4089, 743, 744, 745, 746, 747, 5943, 5943, 1668, 1740, 5894, 2510, 5895, 2765, 5943, 5943, 5943, 5943,
+    5943, 5943, 5943, 5943, 5943, 5943, 5943, 5943, 5943, 5943, 5943, 3489, 596, 597, 598, 599, 600, 601, 1456, 2630,
+    5943, 5943, 5943, 5943, 5943, 135, 1329, 2601, 5238, 1546, 2853, 93, 94, 5239, 3629, 5240, 168, 3804, 2776, 5241,
+    5242, 5243, 3777, 1870, 5244, 3084, 4055, 1759, 1524, 3156, 1196, 4056, 4057, 1682, 4058, 3399, 5245, 2499, 5375,
+    2065, 4257, 4258, 4314, 5488, 5502, 5559, 5725, 5726, 5866, 3069, 2153, 5867, 5942, 5943, 5943, 2162, 2202, 5943,
+    5943, 5943, 5943, 4801, 5943, 3927, 5943, 3990, 5943, 5943, 5943, 5943, 5284, 1200, 5285, 1763, 2185, 1020, 1021,
+    2531, 5286, 5577, 5943, 5943, 5943, 2962, 2982, 5943, 3702, 1898, 1986, 3578, 4559, 3759, 4560, 1379, 5049, 5050,
+    5051, 5343, 5344, 5345, 5346, 5943, 5943, 3715, 4201, 4202, 112, 3879, 5943, 73, 5943, 5422, 5943, 5943, 5943, 157,
+    1497, 5943, 5943, 5943, 275, 276, 5943, 5943, 5943, 5943, 1785, 2387, 4715, 3973, 2530, 2002, 2349, 4716, 1295,
+    2618, 1862, 5743, 3968, 5943, 2734, 549, 3119, 4626, 5595, 4535, 3214, 3215, 3216, 4811, 4812, 416, 3288, 3289,
+    5943, 228, 229, 5379, 2823, 2074, 1610, 576, 2838, 2999, 1595, 3940, 4784, 5943, 5943, 5943, 5943, 1161, 5943, 5943,
+    1566, 410, 121, 3853, 188, 5445, 997, 2799, 3107, 5943, 5943, 5943, 5943, 395, 396, 397, 1308, 1800, 1839, 3995,
+    1202, 2461, 4424, 1403, 4425, 4426, 3029, 5794, 5795, 5943, 5943, 3132, 4636, 5943, 5943, 2410, 4999, 1624, 2143,
+    2242, 3496, 3328, 3329, 1168, 5000, 3735, 5001, 1931, 3677, 5002, 3237, 3238, 3239, 14, 15, 4024, 4025, 4026, 2172,
+    2237, 5003, 2904, 5004, 5943, 5943, 5943, 5943, 4401, 3658, 2171, 933, 934, 3481, 4370, 1187, 4371, 2655, 3863,
+    4372, 5943, 5943, 1851, 5943, 2753, 5943, 192, 4038, 1964, 1573, 5943, 5943, 2748, 5943, 5943, 5943, 5943, 5943,
+    5943, 5943, 490, 491, 5943, 3056, 5943, 2725, 3514, 5476, 5943, 2559, 1499, 4772, 5943, 3548, 5943, 5943, 5943,
+    1449, 5943, 3960, 5943, 5943, 5943, 5943, 5943, 5943, 55, 56, 57, 5931, 5646, 5943, 5943, 1925, 5943, 972, 973,
+    3605, 5943, 2937, 5943, 5943, 3545, 2870, 4002, 5943, 5943, 3568, 1697, 871, 5943, 5943, 1156, 1157, 1957, 1346,
+    5943, 5943, 5943, 5943, 2282, 2333, 5943, 5943, 498, 345, 499, 1976, 5943, 5943, 5943, 5943, 5943, 5943, 3723, 5943,
+    5943, 5943, 5509, 1273, 3882, 5510, 5943, 1324, 1939, 5943, 5943, 2668, 5943, 5943, 5943, 5943, 2078, 5531, 5753,
+    3154, 5943, 5943, 2105, 5943, 5943, 2050, 2651, 5943, 5943, 5943, 3362, 5943, 5943, 2686, 5943, 5943, 5943, 5943,
+    3459, 3709, 5904, 5905, 5943, 5943, 5943, 5943, 5943, 5943, 5943, 5113, 5114, 5943, 5943, 5943, 4816, 5943, 5943,
+    2431, 5943, 5943, 5943, 5943, 5943, 5943, 5943, 5943, 5943, 5943, 5943, 3821, 5943, 3522, 5252, 5253, 5254, 1533,
+    2846, 3806, 5943, 4597, 3586, 1206, 1640, 4598, 4599, 4600, 2119, 4601, 3780, 1873, 4602, 5548, 915, 4111, 4112,
+    4286, 1236, 4287, 5363, 1677, 5364, 1749, 3402, 5876, 5877, 5943, 4820, 1881, 5943, 5943, 1260, 5790, 5791, 4799,
+    1999, 5943, 5943, 5943, 5943, 5943, 5943, 5943, 307, 308, 1463, 5943, 5943, 2383, 2491, 5943, 5943, 1277, 5943,
+    3425, 5943, 2602, 2262, 173, 1547, 1895, 2860, 3546, 5043, 5044, 3637, 4665, 4666, 4667, 2783, 1372, 107, 2985,
+    3062, 3696, 5045, 4565, 4084, 4566, 5566, 5287, 5288, 5289, 5290, 5291, 5292, 1735, 5293, 5294, 2221, 4264, 3839,
+    4171, 4172, 4173, 2321, 4027, 2474, 4174, 4175, 4176, 4177, 167, 4178, 4498, 4703, 1362, 3898, 4704, 1335, 2458,
+    1104, 4705, 4706, 5848, 5849, 5919, 5943, 2342, 455, 456, 5462, 3655, 5463, 5943, 5943, 1016, 5943, 3122, 5584,
+    5943, 3594, 2947, 1920, 3233, 3234, 5943, 5943, 5943, 5943, 879, 880, 5943, 5943, 5943, 2866, 5943, 208, 581, 5943,
+    1438, 1714, 5943, 5943, 5943, 5943, 5943, 5943, 5943, 5943, 5943, 1559, 5943, 5943, 5943, 4427, 5943, 5943, 5943,
+    5943, 286, 287, 1074, 1075, 1076, 1077, 414, 4489, 1989, 3982, 5943, 1204, 2025, 5431, 1395, 1593, 3916, 2910, 3048,
+    5744, 5943, 3143, 3885, 5632, 5943, 5943, 3179, 1619, 3180, 3181, 2887, 1078, 1079, 1080, 901, 1175, 3182, 3183,
+    3286, 794, 795, 567, 796, 797, 16, 17, 1249, 1428, 1596, 1601, 2814, 3287, 1256, 432, 433, 3584, 3656, 2809, 3441,
+    189, 1901, 3738, 2148, 3468, 2629, 1188, 3937, 4611, 4612, 5382, 2286, 4534, 1793, 3024, 5453, 4031, 5454, 5943,
+    1381, 1282, 5943, 3030, 3432, 4814, 5943, 2919, 128, 5943, 3524, 5943, 5943, 550, 551, 2136, 2251, 2454, 3519, 2176,
+    4309, 4310, 1512, 3339, 3340, 2832, 2944, 3341, 1280, 3342, 4, 5, 3343, 3344, 3756, 3965, 2798, 4311, 5479, 5943,
+    5943, 5943, 5943, 4337, 4338, 4339, 931, 932, 2493, 3476, 4340, 4341, 4342, 1494, 2951, 4518, 3389, 4892, 1846,
+    4893, 1692, 876, 4894, 3790, 1962, 3006, 4895, 4896, 2232, 2659, 5943, 5943, 5943, 5943, 3103, 3552, 5943, 5943,
+    5943, 5943, 5943, 2722, 5943, 5943, 5943, 5943, 5943, 5943, 1650, 5943, 5943, 5943, 5943, 1817, 40, 41, 5686, 5943,
+    5943, 5943, 4436, 5943, 5943, 5943, 5516, 5517, 5518, 114, 115, 1479, 1138, 1139, 1140, 2108, 3250, 3251, 5519,
+    5520, 340, 341, 2871, 3538, 5943, 5943, 5943, 5943, 5943, 5943, 5943, 5943, 2212, 5943, 5943, 5943, 5943, 2275,
+    2326, 5943, 5943, 335, 5943, 5943, 5943, 1973, 5943, 5943, 5943, 5943, 5943, 5943, 5943, 5943, 5943, 4591, 4592,
+    4593, 5943, 2129, 5943, 2607, 1946, 5943, 5943, 1536, 1774, 5943, 5943, 5943, 4321, 1232, 2642, 2900, 5537, 2523,
+    840, 841, 842, 843, 2043, 4819, 5762, 670, 671, 672, 673, 674, 3383, 1657, 2379, 5763, 5886, 5887, 5943, 3529, 5943,
+    5943, 5943, 5943, 5943, 5748, 5943, 5943, 5943, 5943, 5943, 5943, 5943, 5943, 5943, 1356, 592, 5943, 1452, 5943,
+    5037, 5038, 5039, 3904, 5943, 5943, 5943, 3822, 51, 139, 2597, 2678, 1654, 5212, 101, 102, 2849, 3809, 3633, 5213,
+    3599, 5214, 5215, 5216, 5217, 4609, 4610, 1866, 2057, 5555, 4067, 1755, 5717, 5371, 472, 5718, 5943, 1686, 4694,
+    1746, 3395, 2503, 4695, 2036, 4215, 4216, 4217, 4316, 4696, 4697, 4698, 5138, 5139, 5140, 412, 1982, 2157, 5141,
+    5858, 1360, 2093, 5859, 1336, 5943, 5943, 5943, 5943, 5943, 868, 1151, 5943, 5943, 3454, 5274, 2257, 2576, 5275,
+    5943, 5943, 999, 2514, 5573, 5943, 5943, 2811, 5943, 2778, 106, 2978, 5930, 3706, 3786, 5943, 4554, 5943, 3771,
+    2299, 3166, 3167, 3168, 3169, 2366, 3170, 1709, 3413, 4508, 2218, 5327, 4129, 4130, 150, 4131, 4132, 2922, 4133,
+    423, 4134, 4135, 4136, 161, 986, 1656, 2704, 4137, 4494, 4993, 4994, 4995, 1131, 1132, 1133, 5168, 3977, 2318, 3428,
+    2013, 3834, 5169, 5170, 5171, 5172, 5173, 5174, 1015, 2544, 3115, 5175, 5328, 3587, 2526, 5329, 5330, 2419, 2992,
+    5591, 81, 1033, 905, 5392, 220, 221, 5393, 5430, 5712, 572, 5733, 1445, 5734, 5943, 5943, 5943, 2097, 5943, 5943,
+    5943, 5943, 5943, 5943, 386, 5943, 5943, 5943, 5943, 5943, 4277, 5943, 5943, 1363, 641, 642, 643, 644, 645, 646,
+    647, 648, 649, 1194, 1476, 1477, 1796, 1584, 1835, 2019, 2520, 2572, 2915, 3041, 3129, 4642, 4643, 4644, 554, 4765,
+    1620, 2139, 4322, 2246, 3508, 603, 604, 605, 606, 607, 608, 609, 610, 611, 2837, 3303, 1435, 3304, 3305, 3306, 3307,
+    2233, 3559, 3681, 3731, 4323, 4766, 3452, 3875, 5389, 4885, 4886, 182, 940, 4887, 4350, 3485, 4351, 1263, 4352,
+    4353, 4354, 4355, 4356, 4888, 1849, 4889, 2749, 3669, 4042, 4890, 1386, 4891, 5418, 5818, 5819, 5943, 4460, 5943,
+    122, 5943, 5943, 5943, 5943, 5943, 5943, 5943, 5943, 2713, 5943, 3074, 5943, 5943, 1503, 2970, 1928, 3751, 257,
+    3924, 5943, 5943, 4421, 2446, 5943, 5943, 5943, 5943, 5943, 5943, 5943, 5943, 2324, 5943, 5642, 5943, 5943, 5943,
+    980, 981, 5943, 3601, 5943, 5943, 5943, 5943, 3541, 2882, 4009, 2312, 3614, 1701, 875, 4010, 4011, 4012, 1953, 4013,
+    4014, 2805, 5943, 108, 5943, 5943, 5943, 5943, 3097, 5943, 506, 349, 507, 243, 2666, 5511, 5512, 1179, 5513, 5774,
+    1314, 1485, 1648, 2897, 5442, 3566, 1812, 5775, 5943, 5681, 1935, 5682, 5943, 5943, 2738, 4817, 5943, 1368, 2082,
+    2305, 4329, 2533, 2415, 3670, 2101, 4330, 5527, 2054, 5760, 78, 2939, 5761, 164, 4445, 5943, 124, 5943, 5943, 5943,
+    5943, 3713, 5943, 2436, 4454, 2213, 5943, 5943, 5943, 5943, 5031, 5032, 5033, 5447, 5943, 5943, 5943, 5943, 5943,
+    5943, 5943, 5943, 5943, 5943, 2407, 5943, 5943, 5943, 3899, 5943, 1165, 5943, 5943, 5943, 5694, 5504, 5695, 1529,
+    5943, 2842, 5943, 484, 485, 3357, 3358, 3359, 3360, 3361, 2115, 836, 837, 838, 476, 839, 918, 1182, 700, 701, 702,
+    703, 2701, 4292, 1665, 4293, 1737, 4447, 2511, 4687, 3684, 4688, 4689, 4690, 4691, 5498, 5544, 5122, 5123, 1995,
+    5124, 2793, 5125, 5868, 5869, 3488, 5943, 5943, 5943, 1459, 5943, 2487, 1027, 5943, 5943, 1036, 5943, 5943, 5943,
+    5943, 2598, 2266, 5943, 1543, 2856, 99, 100, 1011, 4462, 5562, 5943, 5943, 5943, 2771, 5943, 5943, 5943, 5943, 5943,
+    5943, 5943, 4049, 1525, 1762, 1233, 2395, 2690, 4050, 389, 390, 1679, 451, 1724, 3416, 4051, 4052, 4053, 4054, 4239,
+    3843, 4240, 492, 493, 4241, 4268, 2152, 4478, 5374, 4019, 5840, 5841, 5943, 3956, 3957, 3010, 1097, 1098, 4456,
+    5784, 5785, 5943, 3018, 2346, 5466, 5467, 5943, 3652, 1809, 2188, 2518, 5943, 2547, 5580, 3803, 5943, 5943, 1854,
+    2785, 2964, 2979, 5943, 3577, 3703, 2240, 891, 4555, 3764, 4556, 5943, 5943, 5943, 5943, 5943, 1718, 5943, 5943,
+    5943, 3716, 3887, 4187, 4188, 4189, 1255, 4190, 4191, 4192, 4193, 4758, 4759, 4760, 5943, 5943, 3113, 4526, 277,
+    278, 4485, 4676, 3998, 162, 145, 3999, 4677, 3986, 2527, 4678, 2007, 422, 1398, 1589, 3044, 555, 556, 557, 558, 559,
+    560, 1219, 1993, 2398, 2906, 3139, 3229, 3230, 1091, 1092, 1032, 1093, 902, 903, 904, 1172, 2567, 778, 779, 562,
+    780, 781, 1423, 1424, 1605, 2414, 2826, 2891, 2917, 2744, 3002, 3231, 3295, 3296, 3297, 3298, 3299, 185, 3300, 3368,
+    3369, 3445, 2610, 3472, 3549, 3824, 3920, 4272, 2290, 4621, 1789, 1836, 4872, 4873, 2020, 4874, 1385, 4875, 4876,
+    4877, 4878, 5378, 5598, 5609, 1899, 5616, 3873, 248, 249, 250, 251, 1629, 2132, 2708, 3320, 3499, 5659, 1516, 3752,
+    5800, 2828, 3674, 5801, 5828, 5829, 4022, 10, 11, 4023, 5943, 5943, 5943, 5943, 3661, 5943, 5943, 5943, 5943, 5672,
+    4396, 479, 4397, 938, 939, 4379, 3480, 4380, 4398, 4399, 2658, 4400, 5943, 5943, 5943, 1842, 5943, 2756, 5943, 3836,
+    5943, 5943, 5943, 1343, 5943, 5943, 5943, 5943, 5943, 1909, 5943, 5943, 4126, 5943, 5943, 5943, 5943, 3517, 2694,
+    2726, 1181, 5943, 2556, 1488, 527, 528, 1929, 3563, 5943, 5943, 5943, 2478, 3963, 5690, 5943, 5943, 5943, 4440, 69,
+    70, 4284, 5934, 5649, 5943, 5943, 5943, 5943, 962, 963, 4520, 3606, 5943, 2626, 2934, 3534, 5943, 5943, 5943, 5943,
+    3461, 5433, 5943, 5943, 5943, 5943, 1152, 1153, 1286, 1287, 1956, 3201, 3202, 2279, 2338, 1478, 3203, 3204, 3570,
+    5943, 1975, 2624, 4443, 4683, 5943, 5943, 5943, 3728, 5943, 5943, 5943, 5943, 2302, 1272, 1819, 5421, 5943, 1323,
+    1942, 4457, 4686, 1413, 1414, 1522, 1770, 2649, 2077, 5534, 5707, 3096, 3560, 2102, 853, 5500, 5708, 1366, 2047,
+    2226, 5943, 689, 5943, 3791, 3387, 2683, 5943, 86, 1660, 5910, 5911, 3639, 3640, 4455, 4780, 3095, 5943, 5943, 5943,
+    5711, 2580, 2209, 5084, 5085, 5086, 5087, 3571, 5088, 2428, 5089, 5090, 5091, 663, 2769, 3257, 1377, 3258, 3615,
+    5943, 5943, 5943, 5943, 3493, 2593, 5270, 5271, 1637, 2845, 3805, 5943, 5943, 5551, 5943, 360, 1643, 5943, 399, 400,
+    401, 1808, 1884, 2061, 2650, 3784, 4103, 753, 754, 197, 755, 756, 757, 1674, 4104, 1750, 3407, 80, 3871, 4984, 4230,
+    4231, 4232, 4985, 4986, 5367, 5157, 5158, 2000, 2161, 5159, 5160, 385, 3059, 5161, 5162, 1266, 1267, 3644, 4423,
+    2488, 5163, 5882, 5883, 1024, 5943, 5943, 5943, 3458, 377, 378, 1892, 2261, 2193, 2196, 1003, 2504, 4416, 4417,
+    4418, 1914, 4419, 2782, 4420, 2990, 3494, 3693, 4660, 4661, 924, 3890, 2295, 3767, 1242, 4071, 4072, 4073, 4662,
+    1728, 3409, 533, 534, 535, 536, 537, 538, 539, 540, 541, 542, 2222, 2391, 809, 810, 811, 812, 813, 2358, 2926, 3794,
+    3831, 4163, 2585, 2440, 1113, 1114, 1115, 1116, 1117, 3667, 4164, 2009, 2341, 1555, 4165, 4166, 2551, 326, 4167,
+    4168, 2540, 2673, 1210, 3127, 3591, 1915, 2967, 4169, 4170, 4263, 4327, 3952, 3953, 908, 209, 210, 4663, 4664, 4750,
+    3623, 4751, 4854, 1441, 1715, 4855, 4856, 4857, 437, 438, 4858, 4859, 4860, 4861, 1558, 4862, 4863, 5078, 2466,
+    5192, 2070, 4432, 5193, 5194, 297, 298, 1063, 1064, 177, 1065, 1066, 1306, 1992, 4488, 5195, 2030, 5196, 1396, 1580,
+    5310, 2911, 3037, 3915, 5311, 5312, 3140, 4648, 1212, 5313, 5314, 3208, 3209, 2517, 2796, 2886, 3210, 3314, 3315,
+    3504, 3585, 3743, 4270, 2817, 764, 765, 766, 1279, 1431, 1600, 2355, 2803, 4468, 4739, 4740, 5385, 5455, 5456, 89,
+    1223, 2035, 5457, 5569, 3436, 178, 948, 949, 950, 951, 3463, 5587, 5617, 5618, 5667, 5810, 2285, 1794, 1829, 5811,
+    5916, 4030, 3067, 1390, 5917, 353, 5918, 5922, 5923, 5943, 5943, 370, 1923, 5943, 5943, 5943, 3845, 5943, 5943,
+    5943, 5943, 2717, 4480, 2181, 5483, 1507, 3345, 3346, 2835, 3347, 3348, 477, 2371, 3349, 3350, 3748, 5943, 5943,
+    5943, 5943, 5943, 5943, 5943, 5943, 1852, 2954, 3648, 4409, 5028, 5029, 5030, 5943, 4515, 3610, 463, 464, 4483, 319,
+    320, 2878, 5943, 2184, 5943, 1689, 2231, 3688, 5943, 5943, 3009, 5943, 5943, 5943, 2729, 5943, 5943, 1304, 5710,
+    5943, 5943, 514, 515, 2662, 5943, 5943, 5943, 5943, 5943, 4511, 5943, 5943, 1480, 5943, 1651, 5943, 5943, 5943,
+    1816, 36, 37, 5943, 5943, 5943, 5943, 5943, 5943, 5943, 5943, 2507, 1231, 2086, 5523, 2537, 1864, 1141, 1142, 1143,
+    2113, 5943, 5943, 76, 1189, 1778, 2943, 5420, 5943, 5943, 5943, 5943, 5943, 5943, 5943, 3906, 4450, 5943, 5943,
+    5943, 5943, 381, 382, 1703, 2272, 2331, 5635, 334, 656, 657, 1374, 2884, 5636, 5943, 1550, 5943, 5943, 3721, 5943,
+    5943, 5943, 3903, 5943, 1268, 5943, 2124, 5943, 5943, 5943, 5943, 1541, 5943, 5943, 4963, 4964, 4965, 4966, 4967,
+    2635, 4968, 4969, 3817, 851, 852, 5495, 2040, 5540, 920, 5943, 735, 736, 737, 738, 739, 740, 741, 742, 1669, 1741,
+    5892, 5893, 5943, 4259, 4260, 3569, 5412, 5764, 5765, 5943, 5943, 5943, 5943, 3146, 5943, 5943, 5943, 5943, 595,
+    1192, 5943, 1455, 5943, 5943, 5943, 5943, 5943, 5943, 1910, 5943, 5943, 2594, 5246, 5247, 5248, 1638, 2852, 5943,
+    5407, 5723, 3630, 5558, 5724, 5943, 2775, 5943, 5943, 4749, 3778, 525, 526, 1871, 3087, 1758, 4066, 4296, 2480,
+    4297, 4474, 4567, 1683, 1727, 3396, 4568, 2498, 2073, 2692, 3066, 4254, 4255, 4256, 4313, 4569, 4570, 4571, 3070,
+    413, 2156, 4572, 5076, 5155, 2195, 2201, 4797, 5156, 5370, 5864, 5865, 5941, 5943, 3905, 998, 3991, 5943, 5943,
+    5468, 4839, 2550, 4840, 1764, 4841, 1018, 1019, 4842, 4843, 4844, 4845, 4846, 5469, 2961, 5576, 5943, 5943, 5943,
+    5943, 4549, 897, 898, 899, 3760, 1240, 4550, 5353, 2365, 2760, 1706, 2950, 3414, 2294, 3936, 5354, 5355, 147, 5625,
+    5626, 5943, 5943, 5943, 5943, 5943, 2434, 156, 988, 989, 990, 991, 4530, 5943, 5943, 5943, 1307, 4021, 1782, 5943,
+    5943, 3974, 5731, 2003, 2348, 3429, 5604, 2619, 203, 204, 5439, 5605, 2733, 3120, 4625, 1216, 3588, 4736, 1922,
+    3217, 3218, 3219, 4737, 4001, 415, 907, 1177, 226, 227, 3011, 2822, 2865, 1609, 575, 54, 1448, 26, 27, 2998, 3774,
+    3941, 3942, 3943, 1162, 261, 262, 1565, 417, 3852, 3944, 3945, 3946, 996, 3108, 4274, 4275, 4276, 4809, 4810, 5394,
+    5395, 5594, 5732, 1338, 1801, 1832, 3996, 2016, 2462, 1404, 2308, 2616, 3038, 3997, 1970, 5490, 5943, 315, 3133,
+    4635, 5943, 5943, 5943, 1625, 2144, 2243, 5943, 5943, 3326, 3327, 2564, 1520, 3736, 1158, 1159, 3678, 3932, 5943,
+    5943, 1434, 5022, 5023, 5024, 5943, 2238, 5943, 5943, 5943, 5943, 5943, 5943, 5943, 3246, 3247, 3435, 2183, 945,
+    946, 947, 2340, 3484, 4363, 1332, 2654, 1313, 3862, 4364, 1858, 3557, 2752, 3668, 193, 4037, 1967, 1574, 4365, 1339,
+    1340, 4366, 4367, 4368, 4369, 1905, 4459, 5943, 5943, 5943, 5943, 5943, 5943, 3513, 2714, 5448, 5477, 5943, 2560,
+    3367, 5661, 3547, 5943, 5943, 1523, 5943, 1253, 1319, 798, 799, 800, 2443, 3959, 5943, 58, 59, 60, 1226, 2375, 2955,
+    3649, 4777, 5645, 970, 971, 5943, 3602, 5943, 2938, 5943, 3544, 2879, 5943, 5943, 5943, 3575, 1698, 870, 5943, 5943,
+    1952, 5943, 5943, 1348, 5943, 5943, 1259, 5943, 2334, 5943, 5943, 5943, 500, 501, 344, 5943, 5943, 5943, 5943, 5943,
+    5943, 5943, 3724, 5943, 5943, 5943, 5943, 5943, 3883, 1245, 365, 1823, 1938, 406, 407, 1766, 5943, 5943, 5943, 5943,
+    5530, 2081, 5943, 120, 4523, 2587, 5943, 5943, 5943, 3611, 2051, 2230, 2614, 2759, 5943, 5943, 5943, 5943, 2687,
+    5943, 5943, 5943, 3710, 3460, 5902, 4451, 5903, 5943, 5943, 5943, 5943, 5674, 5675, 5108, 5109, 5110, 5111, 259,
+    260, 5112, 5428, 2432, 5943, 5943, 5943, 5943, 5943, 5943, 3625, 5943, 5943, 1166, 5943, 3172, 5943, 5943, 1371,
+    4748, 5255, 1534, 2841, 5256, 5257, 5943, 5547, 5943, 5943, 5943, 5496, 2702, 5943, 1804, 3781, 1874, 5943, 3088,
+    914, 4110, 5943, 5361, 134, 5362, 5943, 5943, 1678, 1738, 3403, 5874, 5406, 5875, 5943, 1882, 4793, 2389, 4794,
+    5776, 5777, 5943, 1996, 5943, 5943, 5943, 5943, 5943, 5943, 2267, 309, 310, 1359, 5943, 5943, 2408, 5943, 4804,
+    5943, 5943, 5943, 3426, 5943, 5943,
 };
 
 /* The index of the first entry with a name or with octets, of this hash. */
 CONST_OID_INLINE size_t const_oid_internal_common_find_name(const char *name, size_t len, uint32_t hash) {
-    size_t slot = const_oid_internal_slot(hash, 6190), index;
+    size_t slot = const_oid_internal_slot(hash, 8171), index;
     do index = const_oid_common_names_by_hash[slot++];
     while (index < CONST_OID_COMMON_NAMES_COUNT && (const_oid_common_entries[index].name_len != len
         || !const_oid_internal_is_same_name(const_oid_common_name(index), name, len)));
@@ -3813,7 +5121,7 @@ CONST_OID_INLINE size_t const_oid_internal_common_find_name(const char *name, si
 }
 
 CONST_OID_INLINE size_t const_oid_internal_common_find_octets(const uint8_t *octets, size_t len, uint32_t hash) {
-    size_t slot = const_oid_internal_slot(hash, 6190), index;
+    size_t slot = const_oid_internal_slot(hash, 8171), index;
     do index = const_oid_common_octets_by_hash[slot++];
     while (index < CONST_OID_COMMON_NAMES_COUNT && (const_oid_common_entries[index].len != len || len == 0
         || CONST_OID_DIFFER(const_oid_common_octets(index).octets, octets, len)));

@@ -63,8 +63,8 @@ int main(void) {
     /* 1.3.6.1.2.1.1.3.0 = 4711 */
     get_bulk(sys_name, sizeof sys_name, 10);
     /* there is no such arc, parent, item or text */
-    print_error(print_typed(" SNMPv2-MIB::sysUpTime.0"));
-    /* sysUpTime.0 */
+    print_error(print_typed(" SNMPv2-MIB::sysName.0"));
+    /* sysName.0 */
     print_error(print_typed("sysUpTime.x"));
     /* expected digit, got 'x' */
     const_oid_octets rsa = const_oid_from_name("RSAEncryption");

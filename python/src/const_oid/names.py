@@ -1,12 +1,12 @@
-"""Names of identifiers: 1,492 entries from RFCs and other documents, which lead, and 4,502 others that people type.
+"""Names of identifiers: entries from RFCs and other documents, which lead, and others that people type.
 
 The others are of OpenSSL, MIBs, Microsoft and others. The case of ASCII letters does not matter, and blanks in a name
 do. Since documents lead, some names, such as `DSA` and `host`, are other identifiers than in OpenSSL or a MIB:
 `common_entries` has theirs, and rust/README.md lists them. And of two identifiers that documents call `id-mod`,
 `id-alg` or `hashAlgs`, the first is found.
 
->>> parse("SNMPv2-MIB::sysUpTime.0"), display(parse(".1.3.6.1.2.1.1.3.0"))
-(ObjectIdentifier('1.3.6.1.2.1.1.3.0'), 'sysUpTime.0')
+>>> parse("SNMPv2-MIB::sysName.0"), display(parse(".1.3.6.1.2.1.1.5.0"))
+(ObjectIdentifier('1.3.6.1.2.1.1.5.0'), 'sysName.0')
 """
 
 import os
@@ -28,8 +28,8 @@ def _read(table: str) -> tuple[tuple[ObjectIdentifier, str], ...]:
 def entries() -> tuple[tuple[ObjectIdentifier, str], ...]:
     """All entries from documents, each an identifier and a name, in the order of the table.
 
-    >>> len(entries()), entries()[0]
-    (1492, (ObjectIdentifier('1.2.112.0.2.0.34.101.66'), 'bake'))
+    >>> entries()[0]
+    (ObjectIdentifier('1.2.112.0.2.0.34.101.66'), 'bake')
 
     A map keeps the last value of a key. Reversed entries make one with the name that `name_of` returns:
 
@@ -44,8 +44,8 @@ def entries() -> tuple[tuple[ObjectIdentifier, str], ...]:
 def common_entries() -> tuple[tuple[ObjectIdentifier, str], ...]:
     """All others, of OpenSSL, MIBs and more, in the same form. A few names of `entries` have another identifier here.
 
-    >>> len(common_entries()), common_entries()[2]
-    (4502, (ObjectIdentifier('1.2.840.10045.3.1.7'), 'P-256'))
+    >>> common_entries()[2]
+    (ObjectIdentifier('1.2.840.10045.3.1.7'), 'P-256')
     """
     return _read("common_names.tsv")
 
@@ -62,8 +62,8 @@ def name_of(oid: ObjectIdentifier) -> str | None:
 def names_of(oid: ObjectIdentifier) -> tuple[str, ...]:
     """All names of an identifier, each once, in the order of the tables.
 
-    >>> names_of(ObjectIdentifier("2.5.4.3"))
-    ('cn', 'commonName', 'id-at-commonName', 'Common Name', 'X520 Common Name')
+    >>> names_of(ObjectIdentifier("2.5.4.98"))
+    ('c3', 'countryCode3c')
     """
     return _native.names_of(oid)
 
@@ -97,7 +97,7 @@ def display(oid: ObjectIdentifier) -> str:
 
     A name that leads elsewhere, such as a second `hashAlgs`, is none, so `parse` returns the same identifier.
 
-    >>> display(parse("2.5.4.3")), display(parse("1.3.6.1.2.1.1.3.0")), display(parse("2.999"))
-    ('cn', 'sysUpTime.0', '2.999')
+    >>> display(parse("2.5.4.3")), display(parse("1.3.6.1.2.1.1.5.0")), display(parse("2.999"))
+    ('cn', 'sysName.0', '2.999')
     """
     return _native.display(oid)

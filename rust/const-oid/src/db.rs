@@ -1,4 +1,4 @@
-//! Some 1,500 names of identifiers: a module of constants for each document that defines some, and the tables [`DB`]
+//! Names of identifiers: a module of constants for each document that defines some, and the tables [`DB`]
 //! and [`SORTED`] of all. [`parse`] reads what people type, and [`display`] writes it. They, [`by_name`], [`by_oid`]
 //! and [`nearest`] ask [`DB`] and then [`COMMON`]. Requires the feature `db`.
 //!
@@ -43,7 +43,7 @@ macro_rules! entries {
                 self.entries
             }
 
-            #[doc = concat!("The number of entries, 1,492 for [`", stringify!($all), "`].")]
+            /// The number of entries.
             #[must_use]
             pub const fn len(&self) -> usize {
                 self.entries.len()
@@ -167,7 +167,7 @@ const TABLES: Tables<'static> = Tables(&[Table::Packed(PACKED_DB), Table::Packed
 ///
 /// let oid = by_name("sha256").unwrap();
 /// assert_eq!((oid.to_string().as_str(), by_oid(oid)), ("2.16.840.1.101.3.4.2.1", Some("id-sha256")));
-/// assert!(COMMON.find_names_for_oid(*oid).eq(["SHA-256", "SHA256", "sha256", "SHA2-256", "sha_256"]));
+/// assert_eq!(COMMON.by_oid(oid), Some("SHA-256"));
 /// ```
 #[must_use]
 pub const fn by_name(name: &str) -> Option<&'static ObjectIdentifier> {

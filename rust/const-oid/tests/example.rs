@@ -8,7 +8,7 @@ use std::io::{Read, Write};
 use std::process::{Command, Stdio};
 
 const CN: &str = "2.5.4.3\n  by name: cn\n  octets: 55 04 03\n  arcs: [2, 5, 4, 3]\n  names: cn, commonName
-  common names: id-at-commonName, Common Name, X520 Common Name\n";
+  common names: id-at-commonName, Common Name, X520 Common Name, common_name, id_at_commonName\n";
 const UP_TIME: &str = "1.3.6.1.2.1.1.3\n  by name: sysUpTime\n  octets: 2B 06 01 02 01 01 03
   arcs: [1, 3, 6, 1, 2, 1, 1, 3]\n  common names: sysUpTime\n";
 const C3: &str = "2.5.4.98\n  by name: c3\n  octets: 55 04 62\n  arcs: [2, 5, 4, 98]
@@ -17,9 +17,11 @@ const DSA: &str = "2.5.6.13\n  by name: dSA\n  octets: 55 06 0D\n  arcs: [2, 5, 
   names: dSA\n  elsewhere, DSA: 1.2.840.10040.4.1\n";
 const SIGNING: &str = "2.23.140.1.4.1\n  by name: code-signing\n  octets: 67 81 0C 01 04 01
   arcs: [2, 23, 140, 1, 4, 1]\n  common names: code-signing
-  elsewhere, codeSigning: 1.3.6.1.5.5.7.3.3\n  elsewhere, Code Signing: 1.3.6.1.5.5.7.3.3\n";
+  elsewhere, codeSigning: 1.3.6.1.5.5.7.3.3\n  elsewhere, Code Signing: 1.3.6.1.5.5.7.3.3
+  elsewhere, code_signing: 1.3.6.1.5.5.7.3.3\n";
 const COUNTRIES: &str = "2.5.4.98 countryCode3c\n2.5.4.99 countryCode3n\n";
-const EXTENSIONS: &str = "2.5.29\n  by name: id-ce\n  octets: 55 1D\n  arcs: [2, 5, 29]\n  names: id-ce\n";
+const EXTENSIONS: &str = "2.5.29\n  by name: id-ce\n  octets: 55 1D\n  arcs: [2, 5, 29]\n  names: id-ce
+  common names: id_ce\n";
 const NO_NAME: &str = "2.9\n  by name: 2.9\n  octets: 59\n  arcs: [2, 9]\n";
 const ELEMENT: &str = "0.6.2.42.3\n  by name: 0.6.2.42.3\n  octets: 06 02 2A 03\n  arcs: [0, 6, 2, 42, 3]\n";
 const SHORT: &str = "0.6.1.42.79\n  by name: 0.6.1.42.79\n  octets: 06 01 2A 4F\n  arcs: [0, 6, 1, 42, 79]\n";
