@@ -41,14 +41,16 @@ OTHERS = {
     lists.simplesamlphp: "",
     lists.cryptography: "signedCertificateTimestampList",
     lists.jdk: "DSA Data DiffieHellman MD5withRSA PSS RSA SHA SHA1withDSA SHA1withRSA timeStamping",
-    lists.asn1crypto: "clearance data dh dsa ecdsa group md2_rsa md5_rsa rsa sha1 sha1_dsa sha1_rsa sha224 sha256 sha384"
-    " sha512 sha512_224 sha512_256 signed_certificate_timestamp_list time_stamping x509",
-    lists.pyasn1_modules: "data dhSinglePass-stdDH-sha256kdf-scheme dhSinglePass-stdDH-sha384kdf-scheme"
-    " dhSinglePass-stdDH-sha512kdf-scheme ellipticCurve id-at-clearance id-attributes id-cmc-identityProofV2"
-    " id-cmc-popLinkWitnessV2 id-mod",
+    lists.asn1crypto: "clearance data dh dsa ecdsa group md2_rsa md5_rsa rsa sha1 sha1_dsa sha1_rsa"
+    " sha224 sha256 sha384 sha512 sha512_224 sha512_256 signed_certificate_timestamp_list"
+    " time_stamping x509",
+    lists.pyasn1_modules: "data dhSinglePass-stdDH-sha256kdf-scheme ellipticCurve id-at-clearance"
+    " dhSinglePass-stdDH-sha384kdf-scheme dhSinglePass-stdDH-sha512kdf-scheme id-attributes"
+    " id-cmc-identityProofV2 id-cmc-popLinkWitnessV2 id-mod",
 }
-# What also does in newer releases of OpenSSL and cryptography.
-NEWER = "tcg-at-platformModel tcg-at-platformVersion DSA-SHA dsaWithSHA sha3_224 sha3_256 sha3_384 sha3_512".split()
+# What also does in newer releases.
+NEWER = """id-aa-multipleSignatures tcg-at-platformModel tcg-at-platformVersion DSA-SHA dsaWithSHA
+    sha3_224 sha3_256 sha3_384 sha3_512""".split()
 SEED = 3416
 
 
