@@ -2,7 +2,7 @@
 
 The others are of OpenSSL, MIBs, Microsoft and others. The case of ASCII letters does not matter, and blanks in a name
 do. Since documents lead, some names, such as `DSA` and `host`, are other identifiers than in OpenSSL or a MIB:
-`common_entries` has theirs, and rust/README.md lists them. And of two identifiers that documents call `id-mod`,
+`common_entries` has theirs, and docs/NAMES.md lists them. And of two identifiers that documents call `id-mod`,
 `id-alg` or `hashAlgs`, the first is found.
 
 >>> parse("SNMPv2-MIB::sysName.0"), display(parse(".1.3.6.1.2.1.1.5.0"))
