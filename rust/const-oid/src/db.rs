@@ -109,45 +109,33 @@ const fn row(start: u32, len: u16, oid: u16) -> PackedRow {
 
 const COMMON_LEN: usize = COMMON_NAMES.len();
 
-/// An array with an item for each index. In a constant, rustc moves all pointers after an item that is written, so parts
-/// are made apart.
-macro_rules! items {
-    ($len:expr, $first:expr, $index:ident => $item:expr) => {{
-        let (mut items, mut $index) = ([$first; $len], 0);
-        while $index < items.len() {
-            if $index + 64 > items.len() {
-                $index = items.len() - 64;
-            }
-            let (mut part, mut place) = ([$first; 64], 0);
-            while place < part.len() {
-                part[place] = $item;
-                (place, $index) = (place + 1, $index + 1);
-            }
-            *items.split_at_mut($index - 64).1.first_chunk_mut().unwrap() = part;
-        }
-        items
-    }};
-}
-
-static COMMON_OIDS: [ObjectIdentifier; COMMON_OCTETS.len() / 40] = items!(COMMON_OCTETS.len() / 40, rfc4519::CN, index => {
-    padded(*COMMON_OCTETS.split_at(40 * index).1.first_chunk().unwrap())
-});
-
-static COMMON_ENTRIES: [(&ObjectIdentifier, &str); COMMON_LEN] = items!(COMMON_LEN, (&COMMON_OIDS[0], ""), index => {
-    (&COMMON_OIDS[COMMON_ROWS[index].oid as usize], COMMON_NAMES[index])
-});
+static COMMON_ENTRIES: [(&ObjectIdentifier, &str); COMMON_LEN] = common_entries();
 
 static COMMON_IN_ORDER: [(&ObjectIdentifierRef, &str); COMMON_LEN] = in_order(&COMMON_ENTRIES, &COMMON_ORDER);
+
+const fn common_entries() -> [(&'static ObjectIdentifier, &'static str); COMMON_LEN] {
+    let mut entries = [(&COMMON_OIDS[0], ""); COMMON_LEN];
+    let mut index = 0;
+    while index < entries.len() {
+        entries[index] = (&COMMON_OIDS[COMMON_ROWS[index].oid as usize], COMMON_NAMES[index]);
+        index += 1;
+    }
+    entries
+}
 
 /// Entries in an order.
 const fn in_order<const LEN: usize>(
     entries: &[(&'static ObjectIdentifier, &'static str); LEN],
     order: &[u16; LEN],
 ) -> [(&'static ObjectIdentifierRef, &'static str); LEN] {
-    items!(LEN, (rfc4519::CN.as_oid_ref(), ""), index => {
+    let mut sorted = [(rfc4519::CN.as_oid_ref(), ""); LEN];
+    let mut index = 0;
+    while index < LEN {
         let (oid, name) = entries[order[index] as usize];
-        (oid.as_oid_ref(), name)
-    })
+        sorted[index] = (oid.as_oid_ref(), name);
+        index += 1;
+    }
+    sorted
 }
 
 /// The identifier of octets, which come after their length and before zeros.
