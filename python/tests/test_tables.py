@@ -154,14 +154,18 @@ class Attributes(SortedMap):
 class Model(dict):
     """What a map does, by looks at all keys."""
 
-    popitem = lambda self: ((last := max(self, default=None)), self.pop(last))
-    nearest = lambda self, oid: max(
-        (item for item in self.items() if oid.starts_with(item[0])), default=None
-    )
-    next_after = lambda self, oid: min(
-        (item for item in self.items() if item[0] > oid), default=None
-    )
-    subtree = lambda self, oid: sorted(item for item in self.items() if item[0].starts_with(oid))
+    def popitem(self):
+        last = max(self, default=None)
+        return last, self.pop(last)
+
+    def nearest(self, oid):
+        return max((item for item in self.items() if oid.starts_with(item[0])), default=None)
+
+    def next_after(self, oid):
+        return min((item for item in self.items() if item[0] > oid), default=None)
+
+    def subtree(self, oid):
+        return sorted(item for item in self.items() if item[0].starts_with(oid))
 
 
 KEYS = [ObjectIdentifier(f"2.{arcs}") for arcs in "0 1 1.5 1.5.300 1.300 2 300 300.1".split()]
@@ -202,19 +206,23 @@ STEP = [int]  # what is called where a value ends
 def shrunk(entries):
     """A map that had 24 keys more, which were after these: of four entries, it is built anew when one goes."""
     table = SortedMap([*entries, *((KEYS[7].child(arc), 0) for arc in range(24))])
-    return collections.deque((table.popitem() for _ in range(24)), 0) or table
+    for _ in range(24):
+        table.popitem()
+    return table
 
 
 def readings(table):
     """The entries of a map by each way to read them."""
     assert table._is_whole()
-    walk = [table.next_after(key) for key in (ObjectIdentifier("0.0"), *table)]
-    back = [*reversed(table.items())], [
-        *zip(reversed(table.keys()), reversed(table.values()), strict=True)
+    return [
+        [*table.items()],
+        [*zip(table, table.values(), strict=True)],
+        [*filter(None, map(table.next_after, [ObjectIdentifier("0.0"), *table]))],
+        [*reversed(table.items())][::-1],
+        [*zip(reversed(table.keys()), reversed(table.values()), strict=True)][::-1],
+        [*map(table.nearest, table)],
+        [(key, table[key]) for key in table.keys()],
     ]
-    found = [table.nearest(key) for key in table], [(key, table[key]) for key in table.keys()]
-    forth = [*table.items()], [*zip(table, table.values(), strict=True)], [*filter(None, walk)]
-    return *forth, back[0][::-1], back[1][::-1], *found
 
 
 class Ending(float):
@@ -226,9 +234,8 @@ class Ending(float):
 
 EndingKey = type("EndingKey", (ObjectIdentifier,), {"__del__": Ending.__del__})
 WATCHED = {"__init__": lambda made, _: weakref.finalize(made, Ending.__del__, None) and None}
-WatchedKey, WatchedValue = type("WatchedKey", (ObjectIdentifier,), WATCHED), type(
-    "WatchedValue", (float,), WATCHED
-)
+WatchedKey = type("WatchedKey", (ObjectIdentifier,), WATCHED)
+WatchedValue = type("WatchedValue", (float,), WATCHED)
 # What ends within a call: values, keys, and garbage, which Python 3.11 finds where it makes an object.
 ENDS = {
     "values": (KEYS.__getitem__, Ending),
@@ -288,11 +295,11 @@ def outcome(calls, key=KEYS.__getitem__, new=int, garbage_at=0, kind=shrunk):
             found[number] = result_of(call, table, key, lambda: new(number))
 
     STEP[0] = step
-    kept = [
-        (number, left) for number in range(2100 if garbage_at else 0)
-    ]  # Python has no tuple that was used before
+    # Python has no tuple that was used before.
+    kept = [(number, left) for number in range(2100 if garbage_at else 0)]
     if garbage_at:
-        (cycle := [Ending()]).append(cycle)
+        cycle = [Ending()]
+        cycle.append(cycle)
         del cycle
         gc.set_threshold(gc.get_count()[0] + garbage_at)
     while left:
@@ -328,12 +335,8 @@ OF_DICT |= {
 }
 OF_DICT |= {"==": lambda one: one == {KEYS[2]: 2}, "== itself": lambda one: one == one}
 # Methods that only one of both calls where a subclass has them: copies of a map have its class, state and entries.
-OWN_OF_ONE = {
-    ("__getstate__", "copy()"),
-    ("__getstate__", "|"),
-    ("items", "copy"),
-    ("items", "copies"),
-}
+OWN_OF_ONE = {("__getstate__", "copy()"), ("__getstate__", "|")}
+OWN_OF_ONE |= {("items", "copy"), ("items", "copies")}
 # What a subclass makes of itself for copies and pickles, with entries in other places, or without them.
 REDUCED = {
     "nothing": lambda one: (type(one), ()),
@@ -343,14 +346,7 @@ REDUCED = {
     "items of a list": lambda one: (type(one), (), None, iter([5, 6])),
     "another type": lambda one: (list, ([5],)),
     "a name": lambda one: "Kind",
-    "more than copies take": lambda one: (
-        type(one),
-        (),
-        {"x": 5},
-        None,
-        None,
-        lambda made, state: None,
-    ),
+    "more than copies take": lambda one: (type(one), (), {"x": 5}, None, None, int),
     "all": lambda one: super(type(one), one).__reduce__(),
     "all, with a state": lambda one: (*super(type(one), one).__reduce__()[:2], {"x": 5}),
 }
@@ -364,15 +360,14 @@ class Sorted(unittest.TestCase):
             model = Model((drawn(draw), 0) for _ in range(count))
             table = SortedMap(draw.sample([*model.items()], len(model)))
             for number in range(50):
-                near = [(key, key.parent or key) for key in draw.choices([*model] or KEYS, k=8)]
-                oids = [
-                    draw.choice([drawn(draw), key, up, up.child(201), key.child(1)])
-                    for key, up in near
-                ]
+                oids = []
+                for key in draw.choices([*model] or KEYS, k=8):
+                    up = key.parent or key
+                    oids.append(draw.choice([drawn(draw), key, up, up.child(201), key.child(1)]))
                 call = CALLS[draw.choice([*CALLS] if number % 30 == 29 else MOST)]
-                news = (itertools.count(number).__next__ for _ in range(2))
                 found, wanted = (
-                    result_of(call, one, oids.__getitem__, next(news)) for one in (table, model)
+                    result_of(call, one, oids.__getitem__, itertools.count(number).__next__)
+                    for one in (table, model)
                 )
                 self.assertEqual((wanted, sorted(model.items())), (found, [*table.items()]))
                 self.assertEqual(set(map(id, model)), set(map(id, table)))
@@ -384,10 +379,8 @@ class Sorted(unittest.TestCase):
             self.assertEqual([(KEYS[0], 1), (oid, dict(given)[oid])], [*SortedMap(given).items()])
         others = {oid: 2}, {oid.child(0): 1}, {"2.5": 1}, {}, {oid: 1, oid.child(0): 1}, [oid], None
         self.assertEqual(7 * [(True, True)], [(table != other, other != table) for other in others])
-        self.assertEqual(
-            [(oid, None), (oid.child(0), None)],
-            list(SortedMap.fromkeys([oid.child(0), oid]).items()),
-        )
+        found = SortedMap.fromkeys([oid.child(0), oid]).items()
+        self.assertEqual([(oid, None), (oid.child(0), None)], [*found])
         made = Attributes.fromkeys(iter([oid]), [1])
         self.assertEqual((Attributes, {oid: [1]}, ()), (type(made), made, made.given))
         table[oid.child(1)] = table
@@ -397,33 +390,27 @@ class Sorted(unittest.TestCase):
             shown[oid.child(1)], table[oid.child(1)] = view(shown), views()
             self.assertEqual(repr(view(shown)).replace("dict", "SortedMap"), repr(views()))
         self.assertEqual("SortedMap_iterator", type(iter(table)).__name__)
-        self.assertNotIn(
-            SortedMap({oid: Own("2.5")}), [{KEYS[0]: Own("2.5")}, {mock.Mock(spec=oid): 1}]
-        )
+        others = {KEYS[0]: Own("2.5")}, {mock.Mock(spec=oid): 1}
+        self.assertNotIn(SortedMap({oid: Own("2.5")}), others)
         walk, table = iter(bare := SortedMap.__new__(SortedMap)), SortedMap.fromkeys(KEYS)
         found = [*readings(bare)], bare.clear(), [*walk], bare.update(table) or bare
         self.assertEqual(([[]] * 7, None, [], table), found)
         self.assertEqual((KEYS[::-1], None, {}), ([*reversed(table)], bare.clear(), bare))
         for kind in (dict, SortedMap):
             one, nan = kind({oid: None}), float("nan")
-            found = (
-                one.setdefault(oid, 1),
-                kind({oid: nan}) == {oid: nan},
-                kind({oid: nan}) == {oid: -nan},
-            )
-            self.assertEqual((None, True, False), found)
-        given = type("Others", (dict,), {"__iter__": None, "keys": lambda _: KEYS[:2]})(
-            dict(zip(KEYS, range(3)))
-        )
+            self.assertIsNone(one.setdefault(oid, 1))
+            self.assertEqual([True, False], [kind({oid: nan}) == {oid: it} for it in (nan, -nan)])
+        others = type("Others", (dict,), {"__iter__": None, "keys": lambda _: KEYS[:2]})
+        given = others(zip(KEYS, range(3)))
         self.assertEqual(dict(given), SortedMap(given))
 
     def test_views_are_as_those_of_a_dict(self):
         calls = [getattr(operator, name) for name in "and_ or_ sub xor lt le gt ge eq ne".split()]
         for name in ("keys", "values", "items"):
-            table, own = (kind(zip(KEYS[:4], range(4))) for kind in (SortedMap, dict))
-            views, every = [getattr(one, name)() for one in (table, own)], getattr(
-                dict(zip(KEYS, range(8))), name
-            )()
+            both = [kind(zip(KEYS[:4], range(4))) for kind in (SortedMap, dict)]
+            table, own = both
+            views = [getattr(one, name)() for one in both]
+            every = getattr(dict(zip(KEYS, range(8))), name)()
             self.assertIsInstance(views[0], getattr(collections.abc, f"{name.title()}View"))
             for start, end in itertools.combinations(range(7), 2) if name != "values" else ():
                 other = {*getattr(dict(zip(KEYS[start:end], range(start, end))), name)()}
@@ -434,32 +421,20 @@ class Sorted(unittest.TestCase):
                 self.assertEqual(*[view.isdisjoint(other) for view in views])
             for change in ("replace", "pop or a default", "update of many"):
                 found, wanted = ([*view] for view in views)
-                self.assertEqual(
-                    (wanted, wanted[::-1], len(wanted)),
-                    (found, [*reversed(views[0])], len(views[0])),
-                )
+                self.assertEqual((wanted, len(wanted)), (found, len(views[0])))
+                self.assertEqual(wanted[::-1], [*reversed(views[0])])
                 self.assertEqual(*[[item in view for item in every] for view in views])
-                _ = [
+                for one in both:
                     CHANGES[change](one, KEYS.__getitem__, itertools.count().__next__)
-                    for one in (table, own)
-                ]
             for given in ((), (table,), (own, 0), (table, -1), (table, "0"), (table, 256)):
                 self.assertIn(type(error_of(type(views[0]), *given)), (TypeError, OverflowError))
 
     def test_maps_are_equal_where_dicts_are(self):
         """All is read before values are compared: each with that of the same key, in the order of keys, by is or ==."""
-        nan, asked, others = (
-            float("nan"),
-            [],
-            [dict, SortedMap, OwnMap, lambda _: types.MappingProxyType(dict(_))],
-        )
-        values = (
-            (nan, nan, True),
-            (nan, float("nan"), False),
-            (999, int("999"), True),
-            (1, 2, False),
-            ([1], [1], True),
-        )
+        nan, asked = float("nan"), []
+        others = dict, SortedMap, OwnMap, lambda given: types.MappingProxyType(dict(given))
+        equal = (nan, nan), (999, int("999")), ([1], [1])
+        unequal = (nan, float("nan")), (1, 2)
 
         class Value:
             def __init__(self, number, is_equal=True):
@@ -472,34 +447,25 @@ class Sorted(unittest.TestCase):
                 return self.is_equal
 
         for kind in others:
-            for value, other, wanted in values:
-                pair = SortedMap(zip(KEYS, [0, value, 2])), kind([*zip(KEYS, [0, other, 2])][::-1])
-                self.assertEqual(
-                    (wanted, wanted), (pair[0] == pair[1], not pair[1] != pair[0]), (kind, value)
-                )
+            for value, other in equal + unequal:
+                table, wanted = SortedMap(zip(KEYS, [0, value, 2])), (value, other) in equal
+                same = kind([*zip(KEYS, [0, other, 2])][::-1])
+                self.assertEqual([wanted] * 2, [table == same, not same != table], (kind, value))
             for keys in (KEYS[1:4], KEYS[:4]):
-                self.assertIs(
-                    False, SortedMap.fromkeys(KEYS[:3]) == kind(dict.fromkeys(keys).items())
-                )
-            for unequal, count in ((None, 8), (5, 6)):
-                pair = [
-                    make((key, Value(index, index != unequal)) for index, key in entries)
-                    for make, entries in (
-                        (SortedMap, [*enumerate(KEYS)]),
-                        (kind, [*enumerate(KEYS)][::-1]),
-                    )
-                ]
+                other = kind(dict.fromkeys(keys).items())
+                self.assertIs(False, SortedMap.fromkeys(KEYS[:3]) == other)
+            for last, count in ((None, 8), (5, 6)):
+                values = [[(KEYS[n], Value(n, n != last)) for n in range(8)] for _ in range(2)]
+                pair = SortedMap(values[0]), kind(values[1][::-1])
                 asked.clear()
-                self.assertEqual(unequal is None, pair[0] == pair[1])
+                self.assertEqual(last is None, pair[0] == pair[1])
                 self.assertEqual([(index, index) for index in range(count)], asked)
-        apart = type(
-            "Apart", (ObjectIdentifier,), {"__eq__": operator.is_, "__hash__": object.__hash__}
-        )
+        methods = {"__eq__": operator.is_, "__hash__": object.__hash__}
+        apart = type("Apart", (ObjectIdentifier,), methods)
         keys = apart("2.5"), apart("2.5")
         table = SortedMap({keys[0]: 1, KEYS[0]: 1})
-        self.assertEqual(
-            [False] * 2, [table == kind.fromkeys(keys, 1) for kind in (dict, SortedMap)]
-        )
+        for kind in (dict, SortedMap):
+            self.assertFalse(table == kind.fromkeys(keys, 1))
 
     def test_copies_are_apart(self):
         """A map is no part of what it was made from, nor of its copies, which have the attributes of a subclass."""
@@ -508,18 +474,14 @@ class Sorted(unittest.TestCase):
         table = Attributes(source)
         table.name, table.slot, table._keys, table._values = "name", [2], 3, 4
         with mock.patch.object(Attributes, "__init__", own):
-            shared, apart = [table.copy(), copy.copy(table), table | {}, {} | table], copies_of(
-                table, range(2, 6)
-            )
+            shared = [table.copy(), copy.copy(table), table | {}, {} | table]
+            apart = copies_of(table, range(2, 6))
         for made in shared + apart:
-            self.assertEqual(
-                (Attributes, "name", 9),
-                (type(made), made.name, made.slot[0] + made._keys + made._values),
-            )
+            self.assertEqual((Attributes, "name", [2]), (type(made), made.name, made.slot))
+            self.assertEqual((3, 4), (made._keys, made._values))
         for made in [*shared, SortedMap(table), *apart]:
-            self.assertEqual(
-                ({one: [1]}, any(made is other for other in apart)), (made, made[one] is not values)
-            )
+            self.assertEqual({one: [1]}, made)
+            self.assertEqual(any(made is other for other in apart), made[one] is not values)
             made[other] = 3
             del made[one]
             self.assertEqual(([one], {one: [1]}, {one: [1]}), (list(table), table, source))
@@ -527,19 +489,16 @@ class Sorted(unittest.TestCase):
         self.assertIs((again := copy.deepcopy(table)), again.name)
         self.assertEqual(({one: [1]}, [one, other], None), (source, list(table), table.clear()))
         self.assertEqual((table, {}), (table.name, table))
+        new = {"__new__": lambda kind, given: object.__new__(kind)}
+        state = {"__setstate__": lambda table, x: vars(table).update(x)}
         ways = [
             {},
-            {
-                "__getstate__": lambda _: {"x": 5},
-                "__setstate__": lambda table, x: vars(table).update(x),
-            },
-        ]
-        new = {"__new__": lambda kind, given: object.__new__(kind)}
-        ways += [
+            {"__getstate__": lambda _: {"x": 5}, **state},
             {"__getstate__": lambda table: (vars(table), None)},
-            {**new, "__getnewargs__": lambda _: (1,)},
+            {"__getnewargs__": lambda _: (1,), **new},
+            {"__getnewargs_ex__": lambda _: ((), {"given": 1}), **new},
         ]
-        for way in (*ways, {**new, "__getnewargs_ex__": lambda _: ((), {"given": 1})}):
+        for way in ways:
             vars(table := type("Kind", (SortedMap,), {"__setattr__": None, **way})(source))["x"] = 5
             made = table.copy(), copy.copy(table), table | {}, copy.deepcopy(table)
             self.assertEqual(4 * [(source, {"x": 5})], [(one, vars(one)) for one in made])
@@ -548,70 +507,60 @@ class Sorted(unittest.TestCase):
 
     def test_copies_are_as_a_subclass_of_dict_makes_them(self):
         """By its own __reduce__ or a reductor of copyreg, which may leave entries out. All are in copy() and |."""
-        for way, (name, reduce) in itertools.product(
-            ("__reduce__", "__reduce_ex__", "copyreg"), REDUCED.items()
-        ):
-            found = []
-            for base in (dict, SortedMap):
+        ways = "__reduce__", "__reduce_ex__", "copyreg"
+        for way, (name, reduce) in itertools.product(ways, REDUCED.items()):
+            found = {base: [] for base in (dict, SortedMap)}
+            for base in found:
                 counts = itertools.count()
                 methods = {
+                    "__module__": __name__,
+                    "__new__": lambda kind, *_: (next(counts), base.__new__(kind))[1],
                     "extend": lambda one, items: setattr(one, "x", items),
                     way: lambda one, *_: reduce(one),
                 }
-                methods["__new__"] = lambda kind, *_: (next(counts), base.__new__(kind))[1]
-                kind = type("Kind", (base,), {"__module__": __name__, **methods})
-                reductors = mock.patch.dict(
-                    copyreg.dispatch_table, {kind: reduce} if way == "copyreg" else {}
-                )
-                with reductors, mock.patch.dict(globals(), Kind=kind):
+                kind = type("Kind", (base,), methods)
+                table = {kind: reduce} if way == "copyreg" else {}
+                names = mock.patch.dict(globals(), Kind=kind)
+                with mock.patch.dict(copyreg.dispatch_table, table), names:
                     for call in COPYING.values():
                         one, made = kind({KEYS[2]: 2}), []
                         error = error_of(lambda: made.extend(call(one)))
                         made = [(plain(copied), getattr(copied, "x", None)) for copied in made]
-                        found.append((type(error), next(counts), made))
-            self.assertEqual(found[: len(COPYING)], found[len(COPYING) :], (way, name))
+                        found[base].append((type(error), next(counts), made))
+            self.assertEqual(found[dict], found[SortedMap], (way, name))
 
     def test_methods_are_called_as_those_of_a_subclass_of_dict(self):
         """Of those that a subclass has of its own. Names that dict does not have are free."""
-        names = {
-            name
-            for kind in (dict, SortedMap)
-            for name, _ in inspect.getmembers(kind, inspect.isroutine)
-        }
-        differ = set()
+        kinds, differ = (dict, SortedMap), set()
+        names = {name for kind in kinds for name, _ in inspect.getmembers(kind, inspect.isroutine)}
         for name in names - {"__getattribute__", "__subclasshook__"} | {"_flat", "_walk"}:
             errors = []
-            for base in (dict, SortedMap):
+            for base in kinds:
                 kind = type("Kind", (base,), {"__module__": __name__})
                 given = [kind({KEYS[2]: 2}) for _ in OF_DICT]
                 setattr(kind, name, own)
                 with mock.patch.dict(globals(), Kind=kind):
-                    errors.append(
-                        [type(error_of(*called)) for called in zip(OF_DICT.values(), given)]
-                    )
-            differ |= {
-                (name, call) for call, one, other in zip(OF_DICT, *errors) if one is not other
-            }
+                    errors.append([type(error_of(*call)) for call in zip(OF_DICT.values(), given)])
+            differ |= {(name, call) for call, *both in zip(OF_DICT, *errors) if len({*both}) > 1}
         self.assertEqual(OWN_OF_ONE, differ)
 
     def test_a_change_ends_an_iteration(self):
         """Keys that come or go are an error at each next step, also after the last key. Other values are none."""
-        again = {
-            "again": lambda table, key, new: operator.setitem(table, key(4), table.pop(key(4)))
+
+        def refill(table, key, new):
+            table.clear()
+            table.update(zip(map(key, range(0, 8, 2)), "abcd"))
+
+        again = {"again": lambda table, key, _: operator.setitem(table, key(4), table.pop(key(4)))}
+        again["all"] = refill
+        orders = {
+            "keys": iter,
+            "keys back": reversed,
+            "items": lambda table: iter(table.items()),
+            "values back": lambda table: reversed(table.values()),
         }
-        again["all"] = lambda table, key, new: (
-            table.clear(),
-            table.update(zip(map(key, range(0, 8, 2)), "abcd")),
-        )
-        orders = (
-            iter,
-            reversed,
-            lambda table: iter(table.items()),
-            lambda table: reversed(table.values()),
-        )
-        for (name, change), order, count in itertools.product(
-            (CHANGES | again).items(), orders, range(6)
-        ):
+        calls = itertools.product((CHANGES | again).items(), orders.items(), range(6))
+        for (name, change), (view, order), count in calls:
             table = shrunk(zip(KEYS[::2], 4 * [None]))
             entries, before = order(table), list(table)
             self.assertEqual([*order(table)][:count], [*itertools.islice(entries, count)])
@@ -619,15 +568,10 @@ class Sorted(unittest.TestCase):
             result_of(change, table, KEYS.__getitem__, int)
             if count < 5 and (list(table) != before or name in again):
                 errors = {repr(error_of(next, entries)) for _ in range(2)}
-                self.assertEqual(
-                    {"RuntimeError('SortedMap changed during iteration')"},
-                    errors,
-                    (name, order, count),
-                )
+                wanted = {"RuntimeError('SortedMap changed during iteration')"}
             else:
-                self.assertEqual(
-                    [*order(table)][count:] if count < 5 else [], [*entries], (name, order, count)
-                )
+                errors, wanted = [*entries], [*order(table)][count:] if count < 5 else []
+            self.assertEqual(wanted, errors, (name, view, count))
         entries, _ = iter(bare := SortedMap.__new__(SortedMap)), bare.update({KEYS[0]: 1})
         self.assertIsInstance(error_of(next, entries), RuntimeError)
 
@@ -635,49 +579,39 @@ class Sorted(unittest.TestCase):
     def test_a_change_is_done_or_not(self):
         """Without memory, a map is as before, also where a part is full, and no reference is kept, nor memory. An empty
         map has none."""
-        kept = [*KEYS, value := (KEYS,), other := ObjectIdentifier("2.9")]
+        other, value = ObjectIdentifier("2.9"), (KEYS,)
+        kept = [*KEYS, value, other]
         given = KEYS.__getitem__, itertools.repeat(value).__next__
         gc.collect()  # which frees what other tests left
         starts = (0, 0, True), *itertools.product([4], (0, 508), (False, True))
         for call, (few, full, are_all) in itertools.product(CALLS.values(), starts):
-            start = [
-                *zip(KEYS[::2], range(few)),
-                *((KEYS[2].child(300 + index), 0) for index in range(1, full)),
-            ]
+            start = [*zip(KEYS[::2], range(few))]
+            start += [(KEYS[2].child(300 + index), 0) for index in range(1, full)]
             start.sort()
             result_of(call, after := SortedMap(start), *given)
             after = [*after.items()]
             counts = [*map(sys.getrefcount, kept)]
-            for table, found in without_memory(
-                lambda table: call(table, *given), lambda: shrunk(start), are_all
-            ):
+            calls = lambda table: call(table, *given), lambda: shrunk(start)
+            for table, found in without_memory(*calls, are_all):
                 wanted = start if found in (MemoryError, SystemError) else after
-                self.assertEqual(
-                    (len(wanted), wanted, False),
-                    (len(table), [*table.items()], other in table),
-                    call,
-                )
-                self.assertEqual(
-                    not wanted, sys.getsizeof(table) == sys.getsizeof(SortedMap()), call
-                )
+                self.assertEqual((len(wanted), wanted), (len(table), [*table.items()]), call)
+                is_empty = sys.getsizeof(table) == sys.getsizeof(SortedMap())
+                self.assertEqual((not wanted, False), (is_empty, other in table), call)
             table = found = wanted = None
             self.assertEqual(counts, [*map(sys.getrefcount, kept)], call)
         entries = dict.fromkeys(KEYS), 2 * [*zip(KEYS, KEYS)]
         for number in range(40):
-            _ = [
-                *without_memory(
-                    lambda given: (SortedMap(given[0]), SortedMap(given[1])), lambda: entries
-                )
-            ]
+            _ = [*without_memory(lambda given: [*map(SortedMap, given)], lambda: entries)]
             before = sys.getallocatedblocks() if number < 10 else before
         self.assertLess(sys.getallocatedblocks(), before + 15)
 
     def test_changes_meet_each_other(self):
         """What ends within a change makes another, and that a third. Each is as if one came after another."""
         errors = []
-        self.enterContext(
-            mock.patch.object(sys, "unraisablehook", lambda given: errors.append(given.exc_value))
+        hook = mock.patch.object(
+            sys, "unraisablehook", lambda given: errors.append(given.exc_value)
         )
+        self.enterContext(hook)
         self.addCleanup(gc.set_threshold, *gc.get_threshold())
         for called in MET:
             calls = [*enumerate(map(CALLS.get, called))]
@@ -686,10 +620,8 @@ class Sorted(unittest.TestCase):
                 self.assertIn(outcome(calls, *ends), wanted, (called, kind))
         for ends in GARBAGE.values():  # which takes a wrong key out of its dict
             given = {type("Key", (), {})(): 1}
-            calls = (0, lambda table, *_: repr(error_of(table.update, given))), (
-                1,
-                lambda *_: given.clear(),
-            )
+            update = lambda table, *_: repr(error_of(table.update, given))
+            calls = enumerate([update, lambda *_: given.clear()])
             self.assertIn(outcome(calls, *ends)[0][0][:9], ("TypeError", "None"))
         self.assertEqual([], errors)
 
@@ -699,15 +631,18 @@ class Sorted(unittest.TestCase):
         reads += [
             lambda table: mock.MagicMock() in table.values(),
             lambda table: [*table.__reduce_ex__(4)[4]],
+            lambda table: {**table},
+            lambda table: [*table.items()],
+            SortedMap(zip(KEYS, KEYS)).__eq__,
         ]
-        reads += [lambda table: {**table}, lambda table: [*table.items()]]
-        for kind, read in itertools.product(
-            (SortedMap, Attributes), [*reads, SortedMap(zip(KEYS, KEYS)).__eq__]
-        ):
+        for kind, read in itertools.product((SortedMap, Attributes), reads):
             table, key = kind(zip(KEYS, KEYS)), ObjectIdentifier("2.9")
-            sys.setprofile(
-                lambda *_: (SortedMap.update(table, {key: 1}), SortedMap.pop(table, key))
-            )
+
+            def change(*_):
+                SortedMap.update(table, {key: 1})
+                SortedMap.pop(table, key)
+
+            sys.setprofile(change)
             found = error_of(read, table)
             sys.setprofile(None)
             self.assertIs(found, None, read)
@@ -722,25 +657,13 @@ class Sorted(unittest.TestCase):
             for arc in arcs:
                 key = ObjectIdentifier(f"2.{own}.{arc}")
                 table.update({key: arc, key.child(1): own, key.child(0): arc})
-                found = (
-                    table.nearest(key.child(2)),
-                    table.next_after(key),
-                    table.pop(key),
-                    table.pop(key.child(0)),
-                )
-                self.assertEqual(((key, arc), (key.child(0), arc), arc, arc), found)
+                self.assertEqual((key, arc), table.nearest(key.child(2)))
+                self.assertEqual((key.child(0), arc), table.next_after(key))
+                self.assertEqual((arc, arc), (table.pop(key), table.pop(key.child(0))))
                 last = 2**32 - 1 - arc
-                found = (
-                    str(key),
-                    key.child(last).arcs,
-                    str(key.parent),
-                    hash(key),
-                    OidError(1, arc).args,
-                )
-                self.assertEqual(
-                    (f"2.{own}.{arc}", (2, own, arc, last), f"2.{own}", hash(bytes(key)), (1, arc)),
-                    found,
-                )
+                self.assertEqual((2, own, arc, last), key.child(last).arcs)
+                self.assertEqual((f"2.{own}.{arc}", f"2.{own}"), (str(key), str(key.parent)))
+                self.assertEqual((hash(bytes(key)), (1, arc)), (hash(key), OidError(1, arc).args))
                 wanted[key.child(1)] = own
                 keys = list(table) if arc % 50 == 0 else []
                 self.assertEqual(sorted(keys), keys)
@@ -754,31 +677,25 @@ class Sorted(unittest.TestCase):
             results = threads.map(work, range(3), 3 * [range(500)])
             while next(signals) < 100:
                 work(3, range(50))
-            self.assertEqual(
-                (1e-3, [None] * 3), (signal.setitimer(signal.ITIMER_REAL, 0)[1], [*results])
-            )
+            self.assertEqual(1e-3, signal.setitimer(signal.ITIMER_REAL, 0)[1])
+            self.assertEqual([None] * 3, [*results])
         self.assertEqual(sorted(wanted.items()), [*table.items()])
 
     def test_no_method_of_a_key_is_called(self):
         """Keys are compared by their octets, also those of pairs, of another mapping, of copies and pickles."""
         keys = [Own(str(key)) for key in KEYS]
-        others = type(
-            "Others", (), {"keys": lambda _: iter(keys), "__getitem__": lambda _, key: key.arcs}
-        )()
+        methods = {"keys": lambda _: iter(keys), "__getitem__": lambda _, key: key.arcs}
+        others = type("Others", (), methods)()
         table = SortedMap(zip(keys, range(8)))
         own.side_effect = lambda *_: 0
         given = dict(table.items())
         own.side_effect = AssertionError
-        made = [
-            *map(SortedMap, (others, given, table, [*table.items()])),
-            SortedMap.fromkeys(keys),
-            table | {},
-        ]
+        made = [*map(SortedMap, (others, given, table, [*table.items()]))]
+        made += [SortedMap.fromkeys(keys), table | {}]
         for one in (table, *made, {} | table, table.copy(), copy.copy(table), *copies_of(table)):
             self.assertEqual([*map(str, KEYS)], [*map(str, one)])
-        self.assertTrue(
-            table == SortedMap(zip(map(Own, map(str, KEYS)), range(8))) != SortedMap(others)
-        )
+        same = SortedMap(zip(map(Own, map(str, KEYS)), range(8)))
+        self.assertTrue(table == same != SortedMap(others))
         self.assertIs(AssertionError, type(error_of(OwnMap.fromkeys, KEYS)))  # as dict does
         for name, call in CALLS.items():
             calls = [(0, call)]
@@ -790,109 +707,87 @@ class Sorted(unittest.TestCase):
 
     def test_errors_of_others_pass_through(self):
         """Nothing is changed then. What is given may change the map, or itself, while it is read."""
-        fail, of = (
-            mock.Mock(side_effect=KeyError("of others")),
-            lambda **calls: type("Others", (), calls)(),
-        )
-        others = [
+        fail = mock.Mock(side_effect=KeyError("of others"))
+        of = lambda **calls: type("Others", (), calls)()
+        given = [
             of(keys=fail),
             of(keys=lambda _: KEYS, __getitem__=fail),
             of(keys=lambda _: map(fail, KEYS)),
+            of(keys=property(fail)),
+            of(__iter__=fail),
+            of(__iter__=lambda _: itertools.chain([(KEYS[1], 1)], map(fail, KEYS))),
+            *(5, None, [1], "ab", [KEYS[3], 1]),
+            [(KEYS[1], 1), (KEYS[3],)],
+            [(KEYS[1], 2, 3)],
         ]
-        others += [of(keys=property(fail)), of(__iter__=fail)]
-        others.append(of(__iter__=lambda _: itertools.chain([(KEYS[1], 1)], map(fail, KEYS))))
         for change in (SortedMap.update, operator.ior, SortedMap.__init__):
             table, pairs = SortedMap.fromkeys(KEYS[::2], 0), []
-            for given in (
-                *others,
-                5,
-                None,
-                [1],
-                "ab",
-                [(KEYS[1], 1), (KEYS[3],)],
-                [(KEYS[1], 2, 3)],
-                [KEYS[3], 1],
-            ):
-                self.assertEqual(
-                    *[
-                        type(error_of(call, given))
-                        for call in (dict, lambda given: change(table, given))
-                    ]
-                )
+            for one in given:
+                errors = error_of(dict, one), error_of(change, table, one)
+                self.assertEqual(*map(type, errors))
             change(table, table)
             self.assertEqual([(key, 0) for key in KEYS[::2]], [*table.items()])
-            clearing = of(__iter__=lambda _: (pairs.clear(), table.clear(), iter([KEYS[3], 3]))[2])
-            pairs += [(KEYS[2], 2), clearing, (KEYS[1], 1)]
+
+            def clear(_):
+                pairs.clear()
+                table.clear()
+                return iter([KEYS[3], 3])
+
+            pairs += [(KEYS[2], 2), of(__iter__=clear), (KEYS[1], 1)]
             change(table, pairs)
             self.assertEqual([(KEYS[2], 2), (KEYS[3], 3)], [*table.items()])
 
     def test_calls_have_signatures_and_keywords(self):
         named = {"fromkeys": "keys value", "update": "entries", "popitem": "", "clear": ""}
         named |= dict.fromkeys(("nearest", "next_after", "subtree"), "oid")
-        for name, words in (
-            named | dict.fromkeys(("get", "pop", "setdefault"), "key default")
-        ).items():
+        named |= dict.fromkeys(("get", "pop", "setdefault"), "key default")
+        for name, words in named.items():
             table = SortedMap.fromkeys(KEYS[:2], 0)
-            given = dict(zip(words.split(), (KEYS[:2] if name == "fromkeys" else KEYS[1], 0)))
-            self.assertEqual(
-                [*given], [*inspect.signature(call := getattr(table, name)).parameters]
-            )
+            call, key = getattr(table, name), KEYS[:2] if name == "fromkeys" else KEYS[1]
+            given = dict(zip(words.split(), (key, 0)))
+            self.assertEqual([*given], [*inspect.signature(call).parameters])
             errors = error_of(lambda: call(**given, other=1)), error_of(call, *given.values(), 1)
             self.assertEqual([TypeError] * 2, [*map(type, errors)])
-            self.assertEqual(
-                f"SortedMap.{name}", getattr(SortedMap, name).__qualname__
-            )  # in errors
+            # In errors.
+            self.assertEqual(f"SortedMap.{name}", getattr(SortedMap, name).__qualname__)
             if name != "update":
                 self.assertEqual(getattr(table.copy(), name)(*given.values()), call(**given))
-        self.assertEqual(
-            (["entries"], table),
-            ([*inspect.signature(SortedMap).parameters], SortedMap(entries=table)),
-        )
+        self.assertEqual(["entries"], [*inspect.signature(SortedMap).parameters])
+        self.assertEqual(table, SortedMap(entries=table))
 
     def test_keys_of_one_hash_are_apart(self):
         """A map keeps 32 bits of a hash, which two of a million keys have in common."""
         seen = {}
         for oid in (ObjectIdentifier.from_arcs((2, arc)) for arc in range(2**20)):
-            if (other := seen.setdefault(hash(oid) % 2**32, oid)) is not oid:
+            other = seen.setdefault(hash(oid) % 2**32, oid)
+            if other is not oid:
                 break
         table = SortedMap({oid: 1, other: 2, KEYS[0]: 3})
-        self.assertEqual(
-            (1, 2, None, 1), (table[oid], table.pop(other), table.get(other), table.pop(oid))
-        )
+        self.assertEqual((1, 2), (table[oid], table.pop(other)))
+        self.assertEqual((None, 1), (table.get(other), table.pop(oid)))
 
     def test_wrong_octets_stay_within_their_memory(self):
         """They are of identifiers that are changed in place, which a map orders somewhere. Sanitizers see the rest."""
         for octets in (b"", 300 * b"\x81", 150 * b"\x81\1", 15 * b"\1" + 300 * b"\xff"):
             wrong, table = ObjectIdentifier.from_bytes(bytes(315)), SortedMap(zip(KEYS, KEYS))
             ctypes.memmove(id(bytes(wrong)) + bytes.__basicsize__ - 1, octets, len(octets))
-            ctypes.c_size_t.from_address(id(wrong) + object.__basicsize__ * 3 // 2).value = len(
-                octets
-            )
+            place = id(wrong) + object.__basicsize__ * 3 // 2
+            ctypes.c_size_t.from_address(place).value = len(octets)
             table[wrong] = 1
-            found = (
-                table.nearest(wrong),
-                table.next_after(wrong),
-                table.subtree(wrong),
-                table.pop(wrong),
-            )
-            self.assertEqual((1, KEYS), (found[3], [*table]))
+            for call in (table.nearest, table.next_after, table.subtree):
+                call(wrong)
+            self.assertEqual((1, KEYS), (table.pop(wrong), [*table]))
 
 
 class Costs(unittest.TestCase):
     def test_its_size_is_that_of_its_memory(self):
         keys = [ObjectIdentifier(f"2.{arc}") for arc in range(3000)]
-        orders = (
-            (51.5, keys),
-            (52, keys[::-1]),
-            (52, random.Random(SEED).sample(keys, 3000)),
-        )  # the most octets a key
+        drawn = random.Random(SEED).sample(keys, 3000)
+        orders = (51.5, keys), (52, keys[::-1]), (52, drawn)  # the most octets a key
+        # How many keys are left, and for how many there is memory.
+        kept = (3000, 3000), (300, 450), (0, 0)
         tracemalloc.start()
         self.addCleanup(tracemalloc.stop)
-        kept = (
-            (3000, 3000),
-            (300, 450),
-            (0, 0),
-        )  # how many keys are left, and for how many there is memory
         for (most, order), (left, held), at_once in itertools.product(orders, kept, (0, 3000)):
             before, table = tracemalloc.get_traced_memory()[0], SortedMap()
             table.update((key, None) for key in order[:at_once])
@@ -906,23 +801,17 @@ class Costs(unittest.TestCase):
             del table
 
     def test_an_empty_map_has_no_memory(self):
-        ways = {
-            "pop": SortedMap.pop,
-            "del": operator.delitem,
-            "popitem": lambda table, _: table.popitem(),
-        }
-        for count, (name, way) in itertools.product((1, 2, 7, 100), ways.items()):
+        ways = SortedMap.pop, operator.delitem, lambda table, _: table.popitem()
+        for count, way in itertools.product((1, 2, 7, 100), ways):
             table = SortedMap((KEYS[0].child(arc), arc) for arc in range(count))
             for key in [*table]:
                 self.assertLess(sys.getsizeof(SortedMap()), sys.getsizeof(table))
                 way(table, key)
-            self.assertEqual(sys.getsizeof(SortedMap()), sys.getsizeof(table), name)
+            self.assertEqual(sys.getsizeof(SortedMap()), sys.getsizeof(table), way)
 
     def test_a_long_identifier_is_found_in_linear_time(self):
         """The search for a prefix makes not all prefixes of what it is given, nor of what that shares with a key."""
-        oid, long = ObjectIdentifier.from_bytes(bytes(500_000)), ObjectIdentifier.from_bytes(
-            bytes(499_999)
-        )
+        oid, long = map(ObjectIdentifier.from_bytes, (bytes(500_000), bytes(499_999)))
         table = SortedMap({ObjectIdentifier("0.0.0"): 1, ObjectIdentifier("0.0.1"): 2})
         for given in (oid, long.child(1)):
             self.assertLess(seconds(lambda: self.assertEqual(1, table.nearest(given)[1])), 1)
@@ -956,44 +845,38 @@ class Costs(unittest.TestCase):
         keys = [KEYS[0].child(arc * 7919 % 1000) for arc in range(1000)]
         table, others = SortedMap.fromkeys(keys), [SortedMap.fromkeys(keys), dict.fromkeys(keys)]
         view = collections.abc.KeysView
-        views = lambda: [iter(table.keys()) for _ in keys], lambda: [
-            iter(view(table)) for _ in keys
-        ]
+        lookups = lambda: [*map(table.get, keys)]
         calls = [
-            views,
-            *(
-                (lambda other=other: table == other, lambda: [*map(table.get, keys)])
-                for other in others
-            ),
+            (lambda: [iter(table.keys()) for _ in keys], lambda: [iter(view(table)) for _ in keys])
         ]
+        calls += [(lambda: table == others[0], lookups), (lambda: table == others[1], lookups)]
         for call, longer in calls:
             self.assertTrue(any(seconds(call) < seconds(longer) for _ in range(20)))
 
     def test_all_entries_take_about_the_time_of_making_the_map(self):
         draw = random.Random(SEED)
-        entries = {
-            ObjectIdentifier(f"1.3.6.1.2.1.{draw.getrandbits(32)}.{arc}"): arc
-            for arc in range(50_000)
-        }
+        arcs = [(1, 3, 6, 1, 2, 1, draw.getrandbits(32), arc) for arc in range(50_000)]
+        entries = dict.fromkeys(map(ObjectIdentifier.from_arcs, arcs), 1)
+
+        def add_each(table):
+            for key in list(entries)[:1000]:
+                table.update({key.child(0): 1})
+
+        def add_back(table):
+            keys = [*table]
+            table.clear()
+            for key in reversed(keys):
+                table.setdefault(key)
+
         calls = {
             "update": (3, lambda table: SortedMap().update(entries)),
-            "small updates": (
-                1,
-                lambda table: [table.update({key.child(0): 1}) for key in list(entries)[:1000]],
-            ),
-            "clear": (1, lambda table: table.clear()),
+            "small updates": (1, add_each),
+            "clear": (1, SortedMap.clear),
             "|": (3, lambda table: table | {ObjectIdentifier("2.5"): 1}),
             "subtree": (3, lambda table: table.subtree(ObjectIdentifier("1.3"))),
-            "back": (
-                6,
-                lambda table: (
-                    keys := [*table],
-                    table.clear(),
-                    [*map(table.setdefault, keys[::-1])],
-                ),
-            ),
+            "back": (6, add_back),
             "popitem": (1, lambda table: [table.popitem() for _ in range(100)]),
-            "next_after": (9, lambda table: [table.next_after(key) for key in entries]),
+            "next_after": (9, lambda table: [*map(table.next_after, entries)]),
         }
         for name, (limit, call) in calls.items():
             rounds = (

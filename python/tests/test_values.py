@@ -38,89 +38,77 @@ GREATEST = b"\x8f\xff\xff\xff\x7f"
 TABLE = SortedMap()
 COMPARISONS = operator.eq, operator.ne, operator.lt, operator.le, operator.gt, operator.ge
 
-# Errors: the call, the code and what it says; for each input the detail, and the index of the wrong component.
-WRONG = [
-    *(
-        (call, 5, "OID value is empty", {given: (0, piece)})
-        for call, given, piece in (
-            (ObjectIdentifier, "", 0),
-            (from_bytes, b"", None),
-            (from_der, b"\6\0", None),
-            (from_arcs, (), None),
-        )
-    ),
-    (ObjectIdentifier, 5, "an identifier has two arcs or more", {"1": (0, 0)}),
-    (ObjectIdentifier, 1, "OID contains out-of-range arc: 40", {"1.40.x": (40, 1)}),
-    (
-        ObjectIdentifier,
-        9,
-        "OID ends with invalid trailing '.'",
-        {"1.": (0, 0), "3.": (0, 0), "1.2.": (0, 1)},
-    ),
-    *(
-        (ObjectIdentifier, 4, f"expected digit, got {shown}", {given: (byte, piece)})
-        for shown, given, byte, piece in (
-            ("'.'", ".", 46, 0),
-            ("'.'", "..", 46, 0),
-            ("'.' (remove the first dot)", ".1.3.6", 46, 0),
-            ("'x' (names.parse takes names)", "x.2", 120, 0),
-            ("'x'", "1.2.3x.y", 120, 2),
-            (r"'\x00'", "1.2\0.3", 0, 1),
-            ("'ü'", "1.2.ü٣", 0xC3, 2),
-            (r"'\u2028'", "1.2.\u2028", 0xE2, 2),
-            ("'😀'", "1.2.😀.x", 0xF0, 2),
-        )
-    ),
-    (names.parse, 4, "no identifier has this name", {"no name.1": (110, 0), "x": (120, 0)}),
-    (
-        names.parse,
-        4,
-        "expected digit, got 'x'",
-        {"sysUpTime.x": (120, 1), "ANSI X9.62.x": (120, 1), "1.x": (120, 1)},
-    ),
-    (ObjectIdentifier, 11, "the text is not UTF-8", {"1.\ud800": (0, 1), "1.2.\ud800": (0, 2)}),
-    (
-        names.parse,
-        11,
-        "the text is not UTF-8",
-        {"cn.\ud800": (0, 1), "1.2.\ud800": (0, 2), "c\ud800": (0, 0)},
-    ),
-    (
-        from_bytes,
-        3,
-        "OID contains arc with invalid base 128 encoding",
-        {b"\x2a\x80\x01": (0, None)},
-    ),
-    (from_der, 14, "the tag is not 6", {b"": (0, None), b"\x26\1\x2a": (0, None)}),
-    (
-        from_der,
-        14,
-        "octets come after the element",
-        {b"\6\1\x2a" + bytes(count): (0, None) for count in (1, 2, 3)},
-    ),
-    (
-        ObjectIdentifier.read_der,
-        14,
-        "the length is not in the form of DER, or octets are missing",
-        {
-            b"\6": (0, None),
-            b"\6\2\x2a": (0, None),
-            b"\6\x81\1\x2a": (0, None),
-            b"\6\x80\x2a\0\0": (0, None),
-        },
-    ),
-    (from_arcs, 5, "an identifier has two arcs or more", {(1,): (0, None)}),
-    (from_arcs, 1, "OID contains out-of-range arc: 3", {(3, 2**32): (3, None)}),
-    *(
-        (call, 2, "OID contains arc which is larger than 32-bits", {given: (0, None)})
-        for call, given in (
-            (from_arcs, (1, 2, 2**32)),
-            (from_arcs, (2**32,)),
-            (from_arcs, (2**32, 40, 2**32)),
-            (OID.child, 2**32),
-        )
-    ),
-]
+# For each call what is given, what the error says, its code, and, unless 0 and None, its detail and its wrong component.
+EMPTY, SHORT = "OID value is empty", "an identifier has two arcs or more"
+TRAILING, TOO_BIG = (
+    "OID ends with invalid trailing '.'",
+    "OID contains arc which is larger than 32-bits",
+)
+DIGIT, NOT_UTF8, NO_NAME = (
+    "expected digit, got ",
+    "the text is not UTF-8",
+    "no identifier has this name",
+)
+TAG, AFTER = "the tag is not 6", "octets come after the element"
+MISSING = "the length is not in the form of DER, or octets are missing"
+WRONG = {
+    ObjectIdentifier: [
+        ("", EMPTY, 5, 0, 0),
+        ("1", SHORT, 5, 0, 0),
+        ("1.40.x", "OID contains out-of-range arc: 40", 1, 40, 1),
+        ("1.", TRAILING, 9, 0, 0),
+        ("3.", TRAILING, 9, 0, 0),
+        ("1.2.", TRAILING, 9, 0, 1),
+        (".", DIGIT + "'.'", 4, 46, 0),
+        ("..", DIGIT + "'.'", 4, 46, 0),
+        (".1.3.6", DIGIT + "'.' (remove the first dot)", 4, 46, 0),
+        ("x.2", DIGIT + "'x' (names.parse takes names)", 4, 120, 0),
+        ("1.2.3x.y", DIGIT + "'x'", 4, 120, 2),
+        ("1.2\0.3", DIGIT + r"'\x00'", 4, 0, 1),
+        ("1.2.ü٣", DIGIT + "'ü'", 4, 0xC3, 2),
+        ("1.2.\u2028", DIGIT + r"'\u2028'", 4, 0xE2, 2),
+        ("1.2.😀.x", DIGIT + "'😀'", 4, 0xF0, 2),
+        ("1.\ud800", NOT_UTF8, 11, 0, 1),
+        ("1.2.\ud800", NOT_UTF8, 11, 0, 2),
+    ],
+    names.parse: [
+        ("no name.1", NO_NAME, 4, 110, 0),
+        ("x", NO_NAME, 4, 120, 0),
+        ("sysUpTime.x", DIGIT + "'x'", 4, 120, 1),
+        ("ANSI X9.62.x", DIGIT + "'x'", 4, 120, 1),
+        ("1.x", DIGIT + "'x'", 4, 120, 1),
+        ("cn.\ud800", NOT_UTF8, 11, 0, 1),
+        ("1.2.\ud800", NOT_UTF8, 11, 0, 2),
+        ("c\ud800", NOT_UTF8, 11, 0, 0),
+    ],
+    from_bytes: [
+        (b"", EMPTY, 5),
+        (b"\x2a\x80\x01", "OID contains arc with invalid base 128 encoding", 3),
+    ],
+    from_der: [
+        (b"\6\0", EMPTY, 5),
+        (b"", TAG, 14),
+        (b"\26\1\x2a", TAG, 14),
+        (b"\6\1\x2a\0", AFTER, 14),
+        (b"\6\1\x2a\0\0", AFTER, 14),
+        (b"\6\1\x2a\0\0\0", AFTER, 14),
+    ],
+    ObjectIdentifier.read_der: [
+        (b"\6", MISSING, 14),
+        (b"\6\2\x2a", MISSING, 14),
+        (b"\6\x81\1\x2a", MISSING, 14),
+        (b"\6\x80\x2a\0\0", MISSING, 14),
+    ],
+    from_arcs: [
+        ((), EMPTY, 5),
+        ((1,), SHORT, 5),
+        ((3, 2**32), "OID contains out-of-range arc: 3", 1, 3, None),
+        ((1, 2, 2**32), TOO_BIG, 2),
+        ((2**32,), TOO_BIG, 2),
+        ((2**32, 40, 2**32), TOO_BIG, 2),
+    ],
+    OID.child: [(2**32, TOO_BIG, 2)],
+}
 
 # What an interpreter runs, where another one has a class with some id.
 INTERPRETED = """
@@ -161,16 +149,15 @@ OTHERS = {
     "test_values.Arcs": [type("Arcs", (), {"arcs": OID.arcs})()],
 }
 NOT_OIDS = OTHERS | {"str (ObjectIdentifier takes text)": ["1.2"]}
-OF_OTHERS = [
-    ("cryptography.x509", "dotted_string", "its .dotted_string"),
-    ("asn1crypto.core", "dotted", "its .dotted"),
-]
-NOT_TEXTS = {
-    f"{module}.Other (ObjectIdentifier takes {hint})": [
-        type("Other", (), {"__module__": module, field: 0})()
-    ]
-    for module, field, hint in [*OF_OTHERS, ("pyasn1.type.univ", "isPrefixOf", "its str()")]
-} | OTHERS
+NOT_TEXTS = dict(OTHERS)
+for field, module in {
+    "dotted_string": "cryptography.x509",
+    "dotted": "asn1crypto.core",
+    "isPrefixOf": "pyasn1.type.univ",
+}.items():
+    hint = "str()" if field == "isPrefixOf" else f".{field}"
+    other = type("Other", (), {"__module__": module, field: 0})()
+    NOT_TEXTS[f"{module}.Other (ObjectIdentifier takes its {hint})"] = [other]
 OF_OIDS = {
     "oid": [names.name_of, names.names_of, names.display],
     "prefix": [OID.starts_with],
@@ -200,94 +187,36 @@ REJECTED = [
         TypeError,
         "",
         from_arcs,
-        ["", "12", b"\1\2", bytearray(b"\1"), memoryview(b"\1\2"), None, 1, [1, "2"]],
-    ),
-    (
-        TypeError,
-        "",
-        from_arcs,
-        [{1: 2, 2: 3}, [1.0, 2], *((1, 2**32, arc) for arc in ("3", 2.0, None))],
-    ),
-    *(
-        (TypeError, f"arcs must be an iterable of int, not {text}", from_arcs, [kind({1: 2, 2: 3})])
-        for kind, text in (
-            (collections.OrderedDict, "collections.OrderedDict"),
-            (set, "set (a set has no order)"),
-            (frozenset, "frozenset (a set has no order)"),
-        )
-    ),
-    *((TypeError, "", call, ["1", 1.0, None, OID]) for call in (OID.child, OID.__getitem__)),
-    *(
-        (TypeError, f"{name} must be an ObjectIdentifier, not {text}", call, inputs)
-        for name, calls in OF_OIDS.items()
-        for call in calls
-        for text, inputs in NOT_OIDS.items()
-    ),
-    *(
-        (TypeError, f"{name} must be a str, not {type(given).__name__}", call, [given])
-        for given in (3, b"cn", None, OID)
-        for call, name in ((names.by_name, "name"), (names.parse, "text"))
-    ),
-    *(
-        (
-            TypeError,
-            f"octets must be bytes, bytearray or memoryview, not {text}",
-            from_bytes,
-            [given],
-        )
-        for text, given in (
-            ("list (bytes takes octets as numbers)", [1]),
-            (
-                "str (ObjectIdentifier takes dotted text, and bytes.fromhex hexadecimal text)",
-                "2A03",
-            ),
-        )
-    ),
-    *(
-        (
-            TypeError,
-            "octets must be items of 1 byte, not 2: see memoryview.cast",
-            call,
-            [memoryview(array.array("H", [0x106, 42]))],
-        )
-        for call in (from_bytes, ObjectIdentifier.read_der)
-    ),
-    *(
-        (TypeError, f"{name} must be a str, not {text}", call, inputs)
-        for text, inputs in NOT_TEXTS.items()
-        for name, call in (("text", ObjectIdentifier), ("specification", OID.__format__))
-    ),
-    *(
-        (ValueError, "an arc is negative: -2", call, [given])
-        for call, given in ((from_arcs, (1, -2)), (OID.child, -2))
-    ),
-    (ValueError, "an arc is negative", OID.child, [-(10**5000)]),
-    *(
-        (ValueError, f"{text} is not among the arcs", OID.index, [arc])
-        for text, arc in [("9", 9), ("'1'", "1")]
-    ),
-    (ValueError, "2 is not among the arcs", exec, ["OID.index(2, 0, 1)"]),
-    *(
-        (KeyError, repr(OID), getattr(TABLE, name), [OID])
-        for name in ("__delitem__", "__getitem__", "pop")
-    ),
-    *(
-        (TypeError, "", call, [[], [1], [(OID, 1)], iter([(OID, 1)])])
-        for call in (lambda pairs: TABLE | pairs, lambda pairs: pairs | TABLE)
-    ),
-    *((IndexError, "own", call, [RAISING]) for call in (OID.__getitem__, OID.child)),
-    *((ValueError, "own", call, [RAISING]) for call in (OID.index, OID.count)),
-    (ValueError, "own", lambda start: OID.index(3, start), [index(OWN_ERRORS[1])]),
-    (
-        AttributeError,
-        "",
-        exec,
         [
-            change.format(name)
-            for change in ("OID.{} = 1", "del OID.{}")
-            for name in ("arcs", "der", "parent", "_octets", "_known", "other", "__dict__")
+            "",
+            "12",
+            b"\1\2",
+            bytearray(b"\1"),
+            memoryview(b"\1\2"),
+            None,
+            1,
+            [1, "2"],
+            {1: 2, 2: 3},
+            [1.0, 2],
+            (1, 2**32, "3"),
+            (1, 2**32, 2.0),
+            (1, 2**32, None),
         ],
     ),
+    (TypeError, "", OID.child, ["1", 1.0, None, OID]),
+    (TypeError, "", OID.__getitem__, ["1", 1.0, None, OID]),
+    (TypeError, "", lambda pairs: TABLE | pairs, [[], [1], [(OID, 1)], iter([(OID, 1)])]),
+    (TypeError, "", lambda pairs: pairs | TABLE, [[], [1], [(OID, 1)], iter([(OID, 1)])]),
+    (ValueError, "an arc is negative: -2", from_arcs, [(1, -2)]),
+    (ValueError, "an arc is negative: -2", OID.child, [-2]),
+    (ValueError, "an arc is negative", OID.child, [-(10**5000)]),
+    (ValueError, "9 is not among the arcs", OID.index, [9]),
+    (ValueError, "'1' is not among the arcs", OID.index, ["1"]),
+    (ValueError, "2 is not among the arcs", exec, ["OID.index(2, 0, 1)"]),
+    (KeyError, repr(OID), exec, ["del TABLE[OID]", "TABLE[OID]", "TABLE.pop(OID)"]),
+    (IndexError, "own", exec, ["OID[RAISING]", "OID.child(RAISING)"]),
+    (ValueError, "own", exec, ["OID.index(RAISING)", "OID.count(RAISING)"]),
+    (ValueError, "own", exec, ["OID.index(3, index(OWN_ERRORS[1]))"]),
     (
         TypeError,
         "",
@@ -314,12 +243,45 @@ REJECTED = [
     (
         OverflowError,
         "a number has 32 bits",
-        lambda numbers: OidError(*numbers),
-        [(4, 2**32 + 120), (4, -1), (2**32 + 4, 120), (-1, 0)],
+        exec,
+        [
+            "OidError(4, 2**32 + 120)",
+            "OidError(4, -1)",
+            "OidError(2**32 + 4, 120)",
+            "OidError(-1, 0)",
+        ],
     ),
-    (OverflowError, "", lambda detail: OidError(4, detail), [2**64 + 120]),
+    (OverflowError, "", exec, ["OidError(4, 2**64 + 120)"]),
     (ValueError, "", exec, ["OidError(99)", "f'{OID:d}'"]),
 ]
+for name in "arcs der parent _octets _known other __dict__".split():
+    REJECTED.append((AttributeError, "", exec, [f"OID.{name} = 1", f"del OID.{name}"]))
+for text, given in {
+    "collections.OrderedDict": collections.OrderedDict({1: 2, 2: 3}),
+    "set (a set has no order)": {1, 2},
+    "frozenset (a set has no order)": frozenset([1, 2]),
+}.items():
+    REJECTED.append((TypeError, f"arcs must be an iterable of int, not {text}", from_arcs, [given]))
+for name, calls in OF_OIDS.items():
+    for call, (text, given) in itertools.product(calls, NOT_OIDS.items()):
+        said = f"{name} must be an ObjectIdentifier, not {text}"
+        REJECTED.append((TypeError, said, call, given))
+for name, call in {"name": names.by_name, "text": names.parse}.items():
+    for given in (3, b"cn", None, OID):
+        said = f"{name} must be a str, not {type(given).__name__}"
+        REJECTED.append((TypeError, said, call, [given]))
+for text, given in {
+    "list (bytes takes octets as numbers)": [1],
+    "str (ObjectIdentifier takes dotted text, and bytes.fromhex hexadecimal text)": "2A03",
+}.items():
+    said = f"octets must be bytes, bytearray or memoryview, not {text}"
+    REJECTED.append((TypeError, said, from_bytes, [given]))
+for call in (from_bytes, ObjectIdentifier.read_der):
+    said = "octets must be items of 1 byte, not 2: see memoryview.cast"
+    REJECTED.append((TypeError, said, call, [memoryview(array.array("H", [0x106, 42]))]))
+for name, call in {"text": ObjectIdentifier, "specification": OID.__format__}.items():
+    for text, given in NOT_TEXTS.items():
+        REJECTED.append((TypeError, f"{name} must be a str, not {text}", call, given))
 
 # Subclasses with a state that is a tuple and without setattr; with a way of their own to be copied; and by copyreg.
 OWN = {"__setattr__": None, "__getstate__": lambda oid: ("state", "kept")}
@@ -500,29 +462,14 @@ class Identifiers(unittest.TestCase):
                 importlib.import_module("const_oid")
 
     def test_errors_say_what_is_wrong(self):
-        for call, code, text, inputs in WRONG:
-            for given, (detail, piece) in inputs.items():
-                wanted = (
-                    OidError,
-                    (code, detail),
-                    type(given),
-                    given,
-                    piece,
-                    f"{text}, given {given!r}",
-                )
-                for error in [
-                    error_of(call, one)
-                    for one in (buffers_of(given) if type(given) is bytes else [given])
-                ]:
-                    found = (
-                        type(error),
-                        error.args,
-                        type(error.given),
-                        error.given,
-                        error.piece,
-                        str(error),
-                    )
-                    self.assertEqual(wanted, found, call)
+        for call, rows in WRONG.items():
+            for given, text, code, *more in rows:
+                detail, piece = more or (0, None)
+                wanted = (code, detail), type(given), given, piece, f"{text}, given {given!r}"
+                for one in buffers_of(given) if type(given) is bytes else [given]:
+                    error = error_of(call, one)
+                    found = error.args, type(error.given), error.given, error.piece, str(error)
+                    self.assertEqual((OidError, *wanted), (type(error), *found), call)
         self.assertEqual((3, 1), error_of(from_arcs, iter((3, 1))).given)
 
     def test_long_inputs_are_cut(self):
