@@ -2,24 +2,18 @@
 """bench/peers/pictures.py [--check]: draws docs/matrix.svg and docs/cost.svg from the tables of docs/PEERS.md.
 
 With --check it writes nothing, and the exit status is 1 if a picture is not the one of its table."""
-import argparse
-import collections
 import pathlib
 import re
 import sys
 from html import escape
 
-DOCS = pathlib.Path(__file__).resolve().parent.parent.parent / "docs"
-WIDTH, LEFT, ROW = (
-    480,
-    136,
-    20,
-)  # a picture's width, for a phone; where columns and bars begin; a row's height
-BAR, MOST = 260, 10_500  # of the bars: the width of the longest, and its instructions
-# What is right for a kind of input.
-RIGHT = collections.defaultdict(
-    lambda: "rejected", {"valid": "read", "arc ≥ 2^32": "either", "1.02": "either"}
-)
+DOCS = pathlib.Path(__file__).resolve().parents[2] / "docs"
+# A picture's width, for a phone; where columns and bars begin; a row's height.
+WIDTH, LEFT, ROW = 480, 136, 20
+# Of the bars: the width of the longest, and its instructions.
+BAR, MOST = 260, 10_500
+# What is right for a kind of input. Others are to be rejected.
+RIGHT = {"valid": "read", "arc ≥ 2^32": "either", "1.02": "either"}
 STYLE = """<style>
 text { fill: #222 } .note { fill: #666 } .small { font-size: 11px } .ours, .strong { font-weight: bold }
 .other { fill: #8a94b8 } .bar { fill: #0a6 }
@@ -30,10 +24,9 @@ text { fill: #222 } .note { fill: #666 } .small { font-size: 11px } .ours, .stro
 
 def table(name):
     """The head and the rows of the table of PEERS whose first heading this is."""
-    lines = re.search(
-        rf"^\|{name}\|(?:.*\|\n)+", (DOCS / "PEERS.md").read_text(encoding="utf-8"), re.M
-    )[0].splitlines()
-    head, _, *rows = [line.strip("|").replace("`", "").split("|") for line in lines]
+    page = (DOCS / "PEERS.md").read_text(encoding="utf-8")
+    lines = re.search(rf"(?m)^\|{name}\|(?:.*\|\n)+", page)[0].replace("`", "").splitlines()
+    head, _, *rows = [line.strip("|").split("|") for line in lines]
     return head[1:], rows
 
 
@@ -46,9 +39,8 @@ def picture(height, title, lines):
     size = f'width="{WIDTH}" height="{height}" viewBox="0 0 {WIDTH} {height}"'
     fonts = 'font-family="Arial, Helvetica, Roboto, sans-serif" font-size="12"'
     head = f'<svg xmlns="http://www.w3.org/2000/svg" {size} {fonts} role="img" aria-labelledby="title">'
-    return "\n".join(
-        [head, f'<title id="title">{escape(title)}</title>', STYLE, *lines, "</svg>", ""]
-    )
+    title = f'<title id="title">{escape(title)}</title>'
+    return "\n".join([head, title, STYLE, *lines, "</svg>", ""])
 
 
 def notes(top, *lines):
@@ -58,15 +50,16 @@ def notes(top, *lines):
 
 def verdict(heading, cell):
     """The words and the kind of a cell of the matrix. Where inputs are misread, their share comes first."""
+    cell = cell.replace(" %", "%")
     if cell == "0":
         return "ok", "ok"
-    share, *what = cell.split(", ")[-1].replace(" %", "%").split(" ")
-    if what == ["misread"]:
-        rejected, also, _ = cell.partition(" % rejected, ")
-        return f"{share} + {rejected}%" if also else share, "wrong"
-    if RIGHT[heading] == "either":
-        return " ".join([share, *what]), "either"
-    return share, "rejected" if what else "wrong"
+    if cell.endswith(" misread"):
+        shares = cell.removesuffix(" misread").split(" rejected, ")
+        return " + ".join(reversed(shares)), "wrong"
+    if RIGHT.get(heading) == "either":
+        return cell, "either"
+    share, *rejected = cell.split()
+    return share, "rejected" if rejected else "wrong"
 
 
 def row_of(y, column, name, headings, cells):
@@ -77,9 +70,8 @@ def row_of(y, column, name, headings, cells):
         x = LEFT + index * column
         look = {"either": "", "wrong": "dark strong"}.get(kind, "dark")
         yield f'<rect x="{x + 1:g}" y="{y + 1}" width="{column - 2:g}" height="{ROW - 2}" class="{kind}"/>'
-        yield text(
-            x + column / 2, y + 14, words, f"{look} small".strip() if len(words) > 7 else look
-        )
+        size = " small" if len(words) > 7 else ""
+        yield text(x + column / 2, y + 14, words, (look + size).strip())
 
 
 def table_of(top, title, headings, rows):
@@ -91,7 +83,7 @@ def table_of(top, title, headings, rows):
         x = LEFT + (index + 0.5) * column
         lines = heading.split(" ", 1) if column < 60 else [heading]
         yield from (text(x, top + y, words) for y, words in zip((43, 30), reversed(lines)))
-        yield text(x, top + 58, RIGHT[heading], "note small")
+        yield text(x, top + 58, RIGHT.get(heading, "rejected"), "note small")
     for y, (name, *cells) in zip(range(top + 64, 10_000, ROW), rows):
         yield from row_of(y, column, name, headings, cells)
 
@@ -109,9 +101,8 @@ def matrix():
         "yellow, or after +: the share of valid inputs that are rejected",
         "no colour: either is right · no row: no such function",
     )
-    return picture(
-        bottom + 48, "What each library does with 10,000 test inputs of each kind", lines
-    )
+    title = "What each library does with 10,000 test inputs of each kind"
+    return picture(bottom + 48, title, lines)
 
 
 def bars(top, title, values):
@@ -130,12 +121,10 @@ def cost():
     head, rows = table("Instructions")
     rows = [row for row in rows if row[0] not in ("this library, C, by rt", "by hand in C")]
     lines, bottom = [], 0
-    for what, title in [
-        ("read, 7 octets", "Text to octets"),
-        ("print, 7 octets", "Octets to text"),
-    ]:
-        cells = [(row[head.index(what) + 1], row[0].replace(", by cargo", "")) for row in rows]
-        values = [(int(cell.replace(",", "")), name) for cell, name in cells if cell != "–"]
+    for what, title in ("read", "Text to octets"), ("print", "Octets to text"):
+        column = head.index(f"{what}, 7 octets") + 1
+        cells = [(row[column].replace(",", ""), row[0].replace(", by cargo", "")) for row in rows]
+        values = [(int(cell), name) for cell, name in cells if cell != "–"]
         lines += bars(bottom, title, values)
         bottom += 22 + ROW * len(values) + 14
     example = "Instructions of one call for 1.2.840.10045.2.1"
@@ -143,13 +132,10 @@ def cost():
     return picture(bottom + 34, f"{example}, by library", lines)
 
 
-parser = argparse.ArgumentParser(
-    description=__doc__, formatter_class=argparse.RawDescriptionHelpFormatter
-)
-parser.add_argument("--check", action="store_true")
-is_check = parser.parse_args().check
+if sys.argv[1:] not in ([], ["--check"]):
+    sys.exit(print(__doc__) if sys.argv[1:] == ["--help"] else __doc__)
 for name, svg in ("matrix.svg", matrix()), ("cost.svg", cost()):
-    if not is_check:
+    if not sys.argv[1:]:
         (DOCS / name).write_text(svg, encoding="utf-8")
     elif (DOCS / name).read_text(encoding="utf-8") != svg:
         sys.exit(f"docs/{name} is not the picture of docs/PEERS.md")
