@@ -31,5 +31,7 @@ def by_function(pattern, *command, **options):
 
 
 def table(head, rows):
+    """A table, in which the first column has words."""
     lines = [head, ["---"] + ["--:"] * (len(head) - 1), *rows]
-    return "".join(f"|{'|'.join(line)}|\n" for line in lines)
+    words = ([f"{cell:,}" if isinstance(cell, int) else cell for cell in line] for line in lines)
+    return "".join(f"|{'|'.join(line)}|\n" for line in words)

@@ -31,29 +31,26 @@ child, parent, arcs, from_arcs = lambda oid: (*oid, 7), lambda oid: oid[:-1], la
 SETUP = """text = "1.2.840.113549.1.1.11"
 oid, same, other = parse(text), parse(text), parse(text + ".1")
 oids = [parse(f"1.3.6.1.2.1.{index * 7919 % 1000}.{index % 7}") for index in range(1000)]"""
-# For each row, what it needs first, and its call.
-ROWS = {
-    "text to identifier": ("", "parse(text)"),
-    "identifier to text": ("", "text_of(oid)"),
-    "octets to identifier": ("octets = octets_of(oid)", "from_octets(octets)"),
-    "identifier to octets": ("", "octets_of(oid)"),
-    "arcs to identifier": ("items = list(arcs(oid))", "from_arcs(items)"),
-    **{
-        call: ("child", call)
-        for call in ("len(oid)", "oid[-1]", "7 in oid", "arcs(oid)", "child(oid)", "parent(oid)")
-    },
-    "==": ("", "oid == same"),
-    "<": ("", "oid < other"),
-    "hash": ("", "hash(oid)"),
-    "lookup in a dict": ("table = {oid: 1, other: 2}", "table[same]"),
-    "sorting 1,000": ("", "sorted(oids)"),
-    "sorting 100,000": (
-        'oids = [parse(f"1.3.{n * 7919 % 100_003}.{n % 7}") for n in range(100_000)]',
-        "sorted(oids)",
-    ),
-    "pickling 1,000": ("import pickle", "pickle.dumps(oids)"),
-    "unpickling 1,000": ("import pickle; pickled = pickle.dumps(oids)", "pickle.loads(pickled)"),
-}
+# A row, what it needs first, and its call.
+ROWS = """text to identifier |  | parse(text)
+identifier to text |  | text_of(oid)
+octets to identifier | octets = octets_of(oid) | from_octets(octets)
+identifier to octets |  | octets_of(oid)
+arcs to identifier | items = list(arcs(oid)) | from_arcs(items)
+len(oid) | child | len(oid)
+oid[-1] | child | oid[-1]
+7 in oid | child | 7 in oid
+arcs(oid) | child | arcs(oid)
+child(oid) | child | child(oid)
+parent(oid) | child | parent(oid)
+== |  | oid == same
+< |  | oid < other
+hash |  | hash(oid)
+lookup in a dict | table = {oid: 1, other: 2} | table[same]
+sorting 1,000 |  | sorted(oids)
+sorting 100,000 | oids = [parse(f"1.3.{n * 7919 % 100_003}.{n % 7}") for n in range(100_000)] | sorted(oids)
+pickling 1,000 | import pickle | pickle.dumps(oids)
+unpickling 1,000 | import pickle; pickled = pickle.dumps(oids) | pickle.loads(pickled)""".splitlines()
 
 MAPS = {
     "SortedMap": """from const_oid import SortedMap as kind
@@ -74,41 +71,40 @@ tracemalloc.start()
 made = kind(entries)
 octets = tracemalloc.get_traced_memory()[0] / len(made)
 tracemalloc.stop()"""
-CALLS = [
-    "table[new] = 1; del table[new]",
-    "table[new] = 1; table.pop(new)",
-    "table[last] = 1; table.popitem()",
-]
-CALLS += [
-    "table[oid] = 1",
-    "table[oid]",
-    "table.get(oid)",
-    "table.get(new)",
-    "oid in table",
-    "new in table",
-]
-CALLS += [
-    "table.setdefault(oid)",
-    "table.pop(new, 0)",
-    "table.update(one)",
-    "table.update(ten)",
-    "near(oid)",
-]
-CALLS += ["near(new)", "after(oid)", "table.subtree(oid)"]
-CALLS += [f"iter(table.{view}())" for view in ("keys", "values", "items")]
-OF_ALL = ["kind(entries)", "table.update(entries)", "kind(entries).update(others)"]
-OF_ALL += [
-    "table == made",
-    "table == entries",
-    "table.copy()",
-    "pickle.dumps(table)",
-    "pickle.loads(pickled)",
-]
-OF_ALL += [
-    f"drain({way}(table{view}))"
-    for view in ("", ".values()", ".items()")
-    for way in ("iter", "reversed")
-]
+CALLS = """table[new] = 1; del table[new]
+table[new] = 1; table.pop(new)
+table[last] = 1; table.popitem()
+table[oid] = 1
+table[oid]
+table.get(oid)
+table.get(new)
+oid in table
+new in table
+table.setdefault(oid)
+table.pop(new, 0)
+table.update(one)
+table.update(ten)
+near(oid)
+near(new)
+after(oid)
+table.subtree(oid)
+iter(table.keys())
+iter(table.values())
+iter(table.items())""".splitlines()
+OF_ALL = """kind(entries)
+table.update(entries)
+kind(entries).update(others)
+table == made
+table == entries
+table.copy()
+pickle.dumps(table)
+pickle.loads(pickled)
+drain(iter(table))
+drain(reversed(table))
+drain(iter(table.values()))
+drain(reversed(table.values()))
+drain(iter(table.items()))
+drain(reversed(table.items()))""".splitlines()
 
 
 def timer_of(names, setup, call):
@@ -144,7 +140,7 @@ def slower(title, sides, setup, rows, count=1):
             spaces[f"{name} {getattr(sys.modules.get(name.lower()), '__version__', '')}"] = names
             exec(setup, names)
     print_row(title, spaces)
-    for row, (needed, call) in rows.items():
+    for row, needed, call in rows:
         timers = [timer_of({**names}, needed, call) for names in spaces.values()]
         times = times_of(row, timers, count if call in OF_ALL else 1)
         aside = ("tuple", "dict", "asn1crypto" if row == "identifier to text" else "dict")
@@ -158,8 +154,8 @@ def slower(title, sides, setup, rows, count=1):
 
 
 def main():
-    rows = list(slower("", SIDES, SETUP, ROWS))
-    calls = {call: ("", call) for call in CALLS + OF_ALL}
+    rows = list(slower("", SIDES, SETUP, [row.split(" | ") for row in ROWS]))
+    calls = [(call, "", call) for call in CALLS + OF_ALL]
     for keys, count in (("1,000 keys", 1000), ("100,000 keys", 100_000)):
         rows += [f"{row}, {keys}" for row in slower(f"\n{keys}", MAPS, OF_MAP, calls, count)]
     return "\n".join(rows) or None
