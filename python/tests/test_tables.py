@@ -111,7 +111,7 @@ class Names(unittest.TestCase):
         for oid, name in names.entries() + names.common_entries():
             self.assertEqual(names.by_name(name), names.parse(name))
             if (names.by_name(name), names.name_of(oid)) == (oid, name):
-                self.assertEqual(name, names.display(oid))
+                self.assertEqual(name if len(oid) > 2 else str(oid), names.display(oid))
             for below in (
                 oid,
                 oid.child(0),
@@ -129,9 +129,9 @@ class Names(unittest.TestCase):
                 (given, given.split(".")[-1]), (error.given, error.given.split(".")[error.piece])
             )
         self.assertIsNone(names.by_name("cn\0"))
-        long = ObjectIdentifier.from_bytes(b"\x2a" + 999 * b"\x7f")
+        long = ObjectIdentifier.from_bytes(b"\x2b\x06" + 999 * b"\x7f")
         self.assertEqual(
-            ("member-body" + 999 * ".127", long),
+            ("dod" + 999 * ".127", long),
             (names.display(long), names.parse(names.display(long))),
         )
 

@@ -1,5 +1,5 @@
 -- What is displayed, and that it is read back.
-use Rattle.std.proofs.Common.{◌≡◌, ℕ, zero, suc, ◌≤◌, true, false, List, [], ◌∷◌, ◌++◌, length, take, drop, nat_eq}
+use Rattle.std.proofs.Common.{◌≡◌, ℕ, zero, suc, ◌≤◌, true, false, List, [], ◌∷◌, ◌++◌, length, take, drop, nat_eq, nat_lt}
 use Rattle.std.proofs.Common.{refl, sym, ap, ◌∙◌, ⊎_elim, if◌then◌else◌, Option, Some, None, Ok}
 use Rattle.std.specs.Cmp.Lexicographic.{pointwise}
 use Rattle.std.specs.Option.{option_and_then, option_map_or}
@@ -81,8 +81,12 @@ module _ (entries : Rows) (arcs : List ℕ) (capacity : ℕ) (readable : AreRead
 
   read_up_to : (n : ℕ) → IsRead (displayed_up_to entries arcs n)
   read_up_to zero = dotted_read
-  read_up_to (suc n) = by_cases IsRead (λ name. name ++ dotted (drop (suc n) arcs)) (shown entries (take (suc n) arcs)) (displayed_up_to entries arcs n)
-      (λ name is. name_read name (take (suc n) arcs) (drop (suc n) arcs) (take-append-drop (suc n) arcs) is) (read_up_to n)
+  read_up_to (suc n) = ⊎_elim
+      (λ (few : nat_lt n 2 ≡ true). rw few dotted_read)
+      (λ (more : nat_lt n 2 ≡ false). rw more (
+      by_cases IsRead (λ name. name ++ dotted (drop (suc n) arcs)) (shown entries (take (suc n) arcs)) (displayed_up_to entries arcs n)
+      (λ name is. name_read name (take (suc n) arcs) (drop (suc n) arcs) (take-append-drop (suc n) arcs) is) (read_up_to n)))
+      (cases_Bool (nat_lt n 2))
 
   pub displayed_read : IsRead (displayed entries arcs)
   displayed_read = read_up_to (length arcs)

@@ -1,5 +1,5 @@
 -- Names that are shown: only the arcs of some entry have one, and it leads back to them.
-use Rattle.std.proofs.Common.{◌≡◌, ℕ, zero, suc, ◌-◌, ◌<◌, List, [], ◌∷◌, ◌++◌, append_assoc, length, take, drop, Bool, true, false, nat_eq, arith, ap, sym, refl, ◌∙◌, ⊎_elim, Some, None}
+use Rattle.std.proofs.Common.{◌≡◌, ℕ, zero, suc, ◌-◌, ◌<◌, List, [], ◌∷◌, ◌++◌, append_assoc, le-ltb, length, take, drop, Bool, true, false, nat_eq, arith, ap, sym, refl, ◌∙◌, ⊎_elim, Some, None}
 use Rattle.std.specs.Prelude.{find, if◌then◌else◌, Option}
 use Rattle.std.specs.Option.{option_map_or}
 use Rattle.std.specs.Cmp.Lexicographic.{pointwise, same_text}
@@ -22,10 +22,10 @@ apart a b other = ⊎_elim
     (λ (unequal : pointwise nat_eq a b ≡ false). unequal)
     (cases_Bool (pointwise nat_eq a b))
 
-step : (entries : Rows) (arcs : List ℕ) (n : ℕ) → 0 < n → displayed_up_to entries arcs n
+step : (entries : Rows) (arcs : List ℕ) (n : ℕ) → 2 < n → displayed_up_to entries arcs n
     ≡ option_map_or (λ name. name ++ dotted (drop n arcs)) (shown entries (take n arcs)) (displayed_up_to entries arcs (n - 1))
-step entries arcs zero some = absurd (omega arith)
-step entries arcs (suc n) some = let e : suc n - 1 ≡ n = omega arith in rw e refl
+step entries arcs zero more = absurd (omega arith)
+step entries arcs (suc n) more = let e : suc n - 1 ≡ n = omega arith in rw (e, le-ltb n 2 (omega arith)) refl
 
 module _ (arcs : List ℕ) where
   abbrev pub has_arcs : Row → Bool
@@ -62,38 +62,31 @@ module _ (entries : Rows) (arcs prefix : List ℕ) (begins : BeginsWith arcs pre
   front : take (length prefix) arcs ≡ prefix
   front = rw begins.1 (take-append_seam prefix begins.0)
 
-  pub displayed_name : (name : List ℕ) → 0 < length prefix → Some name ≡ shown entries prefix
+  pub displayed_name : (name : List ℕ) → 2 < length prefix → Some name ≡ shown entries prefix
       → displayed_up_to entries arcs (length prefix) ≡ name ++ dotted (drop (length prefix) arcs)
-  displayed_name name some is =
-      step entries arcs (length prefix) some ∙ ap (λ found. option_map_or (λ name. name ++ dotted (drop (length prefix) arcs)) found (displayed_up_to entries arcs (length prefix - 1)))
+  displayed_name name more is =
+      step entries arcs (length prefix) more ∙ ap (λ found. option_map_or (λ name. name ++ dotted (drop (length prefix) arcs)) found (displayed_up_to entries arcs (length prefix - 1)))
       (ap (shown entries) front ∙ sym is)
 
-  pub displayed_less : 0 < length prefix → None ≡ shown entries prefix
+  pub displayed_less : 2 < length prefix → None ≡ shown entries prefix
       → displayed_up_to entries arcs (length prefix) ≡ displayed_up_to entries arcs (length prefix - 1)
-  displayed_less some is =
-      step entries arcs (length prefix) some ∙ ap (λ found. option_map_or (λ name. name ++ dotted (drop (length prefix) arcs)) found (displayed_up_to entries arcs (length prefix - 1)))
+  displayed_less more is =
+      step entries arcs (length prefix) more ∙ ap (λ found. option_map_or (λ name. name ++ dotted (drop (length prefix) arcs)) found (displayed_up_to entries arcs (length prefix - 1)))
       (ap (shown entries) front ∙ sym is)
 
--- a single arc has no name, and no arc neither
-one_unnamed : (entries : Rows) (arcs : List ℕ) (arc : ℕ) → BeginsWith arcs (arc ∷ []) → displayed_up_to entries arcs 1 ≡ text_of arcs
-one_unnamed entries arcs arc begins =
-    displayed_less entries arcs (arc ∷ []) begins (omega arith) (unnamed (arc ∷ []) entries (λ octets e. absurd e.identifier))
-
--- below the first two arcs there are none
-pub displayed_none : (entries : Rows) (arcs prefix octets : List ℕ) → BeginsWith arcs prefix → IsEncoding root_rule prefix octets
-    → None ≡ parent_of prefix → None ≡ shown entries prefix → displayed_up_to entries arcs (length prefix) ≡ text_of arcs
-displayed_none entries arcs (a ∷ b ∷ []) octets begins e none is =
-    displayed_less entries arcs (a ∷ b ∷ []) begins (omega arith) is
-    ∙ one_unnamed entries arcs a (b ∷ begins.0, begins.1)
-displayed_none entries arcs (a ∷ b ∷ c ∷ later) octets begins e none is = grind (arith, nat_tests)
-displayed_none entries arcs _ octets begins e none is = absurd e.identifier
+-- two arcs have no name
+pub displayed_none : (entries : Rows) (arcs prefix octets : List ℕ) → IsEncoding root_rule prefix octets
+    → None ≡ parent_of prefix → displayed_up_to entries arcs (length prefix) ≡ text_of arcs
+displayed_none entries arcs (a ∷ b ∷ []) octets e none = refl
+displayed_none entries arcs (a ∷ b ∷ c ∷ later) octets e none = grind (arith, nat_tests)
+displayed_none entries arcs _ octets e none = absurd e.identifier
 
 pub parent_is : (prefix parent : List ℕ) → Some parent ≡ parent_of prefix → (parent ≡ take (length prefix - 1) prefix) × (2 < length prefix)
 parent_is prefix parent is = (grind (arith, nat_tests), grind (arith, nat_tests))
 
--- a parent is a prefix with an arc less
+-- a parent is a prefix with an arc less, of three arcs or more
 pub parent_begins : (arcs prefix parent : List ℕ) → BeginsWith arcs prefix → Some parent ≡ parent_of prefix
-    → BeginsWith arcs parent × (length parent ≡ length prefix - 1) × (0 < length prefix)
+    → BeginsWith arcs parent × (length parent ≡ length prefix - 1) × (2 < length prefix)
 parent_begins arcs prefix parent begins is =
     let (same, more) = parent_is prefix parent is in
     let less = length prefix - 1 in (
@@ -102,16 +95,9 @@ parent_begins arcs prefix parent begins is =
         begins.1 ∙ ap (λ xs. xs ++ begins.0) (sym (take-append-drop less prefix)) ∙ append_assoc (take less prefix) (drop less prefix) begins.0,
       ),
       ap length same ∙ length-take-le less prefix (omega arith),
-      omega arith,
+      more,
     )
 
 pub begins_below : (list prefix start : List ℕ) → BeginsWith list prefix → BeginsWith prefix start → BeginsWith list start
 begins_below list prefix start (rest, joined) (more, split) =
     (more ++ rest, joined ∙ ap (λ xs. xs ++ rest) split ∙ append_assoc start more rest)
-
-pub some_arcs : {arcs octets : List ℕ} → IsEncoding root_rule arcs octets → 0 < length arcs
-some_arcs {arcs} e = by arcs e.identifier
-  where
-    by : (arcs : List ℕ) → IsIdentifier root_rule arcs → 0 < length arcs
-    by [] i = absurd i
-    by (arc ∷ arcs) i = omega arith

@@ -79,10 +79,11 @@ shown rows arcs = option_and_then (λ name. option_and_then
 abbrev pub dotted : List ℕ → List ℕ
 dotted arcs = flat_map (λ arc. dot ∷ decimal arc) arcs
 
--- the name of the longest prefix that has one, of at most n arcs, and the other arcs, or else the dotted text
+-- the name of the longest prefix that has one, of three to n arcs, and the other arcs, or else the dotted text
 abbrev pub displayed_up_to : Rows → List ℕ → ℕ → List ℕ
 displayed_up_to rows arcs zero = text_of arcs
-displayed_up_to rows arcs (suc n) = option_map_or (λ name. name ++ dotted (drop (suc n) arcs))
+displayed_up_to rows arcs (suc n) =
+    if nat_lt n 2 then text_of arcs else option_map_or (λ name. name ++ dotted (drop (suc n) arcs))
     (shown rows (take (suc n) arcs)) (displayed_up_to rows arcs n)
 
 -- what is displayed of arcs

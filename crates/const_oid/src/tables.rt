@@ -175,8 +175,8 @@ impl<'a> Tables<'a> {
         }
     }
 
-    /// The text of an identifier: the name that is shown for its longest prefix with one, and a dot and a decimal for
-    /// each arc after it, or else dotted text. [`Tables`] has an example.
+    /// The text of an identifier: the name of its longest prefix of three arcs or more that has one and is what the name
+    /// leads to, and a dot and a decimal for each arc after it, or else dotted text. [`Tables`] has an example.
     pub fn display(&self, oid: ObjectIdentifierRef<'a>) -> Display<'a>
         ensures { displayed_by result ≡ displayed (rows_in self.now) (ref_arcs oid.entry) }
     {
@@ -194,7 +194,8 @@ impl<'a> Tables<'a> {
         }
     }
 
-    /// The name that is shown for the longest prefix of an identifier that has one, and this prefix, or `None`.
+    /// The name that is shown for the longest prefix of an identifier that has one, and this prefix. `None` if it has
+    /// two arcs, which have no parent: such a name says too little of the arcs after it.
     fn shown_above(
         &self,
         oid: ObjectIdentifierRef<'a>,
@@ -205,12 +206,13 @@ impl<'a> Tables<'a> {
             × (displayed (rows_in self.now) (ref_arcs oid.entry) ≡ found.0.now ++ dotted (drop (length (ref_arcs found.1)) (ref_arcs oid.entry)))) }
     {
         let mut prefix = oid;
-        loop {
+        while let Some(above) = prefix.parent() {
             if let Some(name) = self.shown(prefix) {
                 return Some((name, prefix));
             }
-            prefix = prefix.parent()?;
+            prefix = above;
         }
+        None
     }
 }
 

@@ -60,13 +60,15 @@ static void see_row(const char *typed, const char *second, const char *third, si
 }
 
 /* A name is parsed as const_oid_from_name finds it, and what is displayed of its octets, and below, as the same. The
- * first name of octets is displayed if it leads back. */
+ * first name of three arcs or more is displayed if it leads back. */
 static void see_name(const char *name, const_oid_octets of, size_t row) {
     const const_oid_octets found = const_oid_from_name(name);
     memcpy(wanted, found.octets, found.len);
     see_parsed(name, strlen(name), found.len, row);
     memcpy(wanted, of.octets, of.len);
-    if (found.octets == of.octets && const_oid_to_name(of.octets, of.len) == name) see_displayed(of.len, name, row);
+    const int is_long = const_oid_parent(of.octets, of.len, octets, ROOM).code == CONST_OID_OK;
+    const int leads_back = found.octets == of.octets && const_oid_to_name(of.octets, of.len) == name;
+    if (is_long && leads_back) see_displayed(of.len, name, row);
     for (size_t len = of.len; len < 60; len++) {
         wanted[len] = (uint8_t)(len % 7 < 4 && len != of.len + 3 ? 0x81 + row % 13 : row % 128);
         if (wanted[len - 1] >= 0x80) continue;

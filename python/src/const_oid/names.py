@@ -93,7 +93,8 @@ def parse(text: str) -> ObjectIdentifier:
 
 
 def display(oid: ObjectIdentifier) -> str:
-    """The first name of an identifier, or of its longest prefix with one, and the arcs after it, or else dotted text.
+    """The first name of an identifier's longest prefix of three arcs or more with one, which may be itself, and the arcs
+    after it, or else dotted text.
 
     A name that leads elsewhere, such as a second `hashAlgs`, is none, so `parse` returns the same identifier.
 

@@ -197,9 +197,9 @@ pub fn nearest(oid: &ObjectIdentifierRef) -> Option<(&'static ObjectIdentifierRe
     TABLES.nearest(oid)
 }
 
-/// The text of an identifier: its name by [`by_oid`], or that of its longest prefix with one, and the arcs after it, or
-/// else dotted text. A name that leads elsewhere, such as a second `hashAlgs`, is none, so [`parse`] reads what is
-/// written as the same identifier. It has an example.
+/// The text of an identifier: the name by [`by_oid`] of its longest prefix of three arcs or more that has one, which may
+/// be the identifier itself, and the arcs after it, or else dotted text. A name that leads elsewhere, such as a second
+/// `hashAlgs`, is none, so [`parse`] reads what is written as the same identifier. It has an example.
 #[must_use]
 pub fn display(oid: &ObjectIdentifierRef) -> Display<'_> {
     TABLES.display(oid)

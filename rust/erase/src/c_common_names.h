@@ -116,24 +116,27 @@ CONST_OID_INLINE const char *const_oid_internal_name_back(const uint8_t *octets,
     return found.len == len && !CONST_OID_DIFFER(found.octets, octets, len) ? name : CONST_OID_NULL;
 }
 
-/* Writes the first name of contents octets, or that of their longest prefix with one, and the arcs after it, or else
- * dotted text. A name that leads elsewhere, such as a second hashAlgs, is none, so const_oid_parse reads what is
- * written as the same octets. A zero follows, for which there must be room too, and which `len` does not count. Four
- * bytes for each octet, 255 for a name and one are enough. */
+/* Writes the name of the longest prefix of contents octets that has three arcs or more and a first name, and the arcs
+ * after it, or else dotted text. A name that leads elsewhere, such as a second hashAlgs, is none, so const_oid_parse
+ * reads what is written as the same octets. A zero follows, for which there must be room too, and which `len` does not
+ * count. Four bytes for each octet, 255 for a name and one are enough. */
 CONST_OID_NODISCARD CONST_OID_READS(1, 2) CONST_OID_WRITES(3, 4) CONST_OID_INLINE const_oid_status const_oid_display(
     const uint8_t *octets, size_t len, char *CONST_OID_RESTRICT out, size_t out_len) {
-    size_t at = len < CONST_OID_USUAL_OCTETS ? len : CONST_OID_USUAL_OCTETS, used, room, i;
-    const char *name;
+    size_t at = len < CONST_OID_USUAL_OCTETS ? len : CONST_OID_USUAL_OCTETS, root = 0, used, room, i;
+    const char *name = CONST_OID_NULL;
     char *rest;
     const_oid_status status = const_oid_check(octets, len);
     if (status.code != CONST_OID_OK) return status;
-    do name = const_oid_internal_name_back(octets, at);
-    while (!name && --at > 0);
+    while (octets[root] >= 128) root++;
+    for (; at > root + 1; at--) {
+        name = const_oid_internal_name_back(octets, at);
+        if (name) break;
+    }
     used = const_oid_internal_name_len(name ? name : "");
     room = used < out_len ? out_len - used - 1 : 0;
     rest = used < out_len ? out + used : out;
-    status = at > 0 ? const_oid_to_text_below(octets, len, octets, at, rest, room)
-                    : const_oid_to_text(octets, len, rest, room);
+    status = name ? const_oid_to_text_below(octets, len, octets, at, rest, room)
+                  : const_oid_to_text(octets, len, rest, room);
     status.len = status.len + used;
     if (used >= out_len) status.code = CONST_OID_OUTPUT_TOO_SHORT;
     if (status.code != CONST_OID_OK) return status;

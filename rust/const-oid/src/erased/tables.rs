@@ -130,8 +130,8 @@ impl<'a> Tables<'a> {
         if other.eq_last_first(&oid) { Some(name) } else { None }
     }
 
-    /// The text of an identifier: the name that is shown for its longest prefix with one, and a dot and a decimal for
-    /// each arc after it, or else dotted text. [`Tables`] has an example.
+    /// The text of an identifier: the name of its longest prefix of three arcs or more that has one and is what the name
+    /// leads to, and a dot and a decimal for each arc after it, or else dotted text. [`Tables`] has an example.
     #[must_use]
     pub fn display(&self, oid: &'a ObjectIdentifierRef) -> Display<'a> {
         match self.shown_above(oid) {
@@ -140,15 +140,17 @@ impl<'a> Tables<'a> {
         }
     }
 
-    /// The name that is shown for the longest prefix of an identifier that has one, and this prefix, or `None`.
+    /// The name that is shown for the longest prefix of an identifier that has one, and this prefix. `None` if it has
+    /// two arcs, which have no parent: such a name says too little of the arcs after it.
     fn shown_above(&self, oid: &'a ObjectIdentifierRef) -> Option<(&'a str, &'a ObjectIdentifierRef)> {
         let mut prefix = oid;
-        loop {
+        while let Some(above) = prefix.parent() {
             if let Some(name) = self.shown(prefix) {
                 return Some((name, prefix));
             }
-            prefix = prefix.parent()?;
+            prefix = above;
         }
+        None
     }
 }
 
