@@ -11,7 +11,6 @@ from collections.abc import (
     Set,
     ValuesView,
 )
-from itertools import chain
 from reprlib import recursive_repr
 from typing import Any, Self, TypeVar, cast, overload
 
@@ -119,9 +118,8 @@ class SortedMap(Table[Value], MutableMapping[ObjectIdentifier, Value]):
 
     @recursive_repr("{...}")
     def __repr__(self) -> str:
-        flat = _flat(self)
-        entries = ", ".join(map("{!r}: {!r}".format, flat[::2], flat[1::2]))
-        return f"{type(self).__name__}({{{entries}}})"
+        entries = [f"{key!r}: {value!r}" for key, value in [*SortedMap.items(self)]]
+        return f"{type(self).__name__}({{{', '.join(entries)}}})"
 
     def __reduce__(self) -> Any:
         """As of a dict: a subclass that calls it has the entries among the arguments."""
@@ -170,11 +168,6 @@ class SortedMap_items(Items[Value], Set[tuple[ObjectIdentifier, Value]]):
     __contains__: Any = ItemsView.__contains__
     __repr__ = _shown
     _from_iterable = set
-
-
-def _flat(table: SortedMap[Any]) -> list[Any]:
-    """All keys and values in turn, as of one moment."""
-    return [*chain.from_iterable([*SortedMap.items(table)])]
 
 
 def _new(table: Any) -> tuple[Any, Any]:
