@@ -32,11 +32,8 @@ CRATE = TOP / "rust/const-oid-c/Cargo.toml"
 HEADER = TOP / "crates/const_oid_c/include/const_oid.h"
 EXTENSION = "_native.abi3.so"
 SOURCES = ("__init__.py", "_native.pyi", "names.py", "py.typed", "sorted_map.py")
-PACKAGE = [
-    *(HERE / "src/const_oid" / name for name in SOURCES),
-    TOP / "rust/names.tsv",
-    TOP / "rust/common_names.tsv",
-]
+PACKAGE = [HERE / "src/const_oid" / name for name in SOURCES]
+PACKAGE += [TOP / "rust/names.tsv", TOP / "rust/common_names.tsv"]
 LICENCES = ("LICENSE-APACHE", "LICENSE-MIT")
 ARCHIVED = (
     "backend.py",
@@ -48,11 +45,9 @@ ARCHIVED = (
 ARCHIVED_OF_TOP = (
     *LICENCES,
     "crates/const_oid_c/include/*.h",
-    "rust/const-oid/README.md",
-    "rust/const-oid*/Cargo.*",
-)
-ARCHIVED_OF_TOP += (
     "rust/*names.tsv",
+    "rust/const-oid*/Cargo.*",
+    "rust/const-oid/README.md",
     "rust/const-oid/examples/*.rs",
     "rust/const-oid*/src/**/*.rs",
 )
@@ -72,11 +67,9 @@ PROJECT = tomllib.loads((HERE / "pyproject.toml").read_text(encoding="utf-8"))["
 PROJECT["version"] = ".".join(
     re.findall(r"define CONST_OID_VERSION_\w+ (\d+)", HEADER.read_text(encoding="utf-8"))
 )
-# A 32-bit Python may run on a 64-bit kernel, whose name it then has.
-OF_32_BITS = (
-    {"linux-x86_64": "linux-i686", "linux-aarch64": "linux-armv7l"} if sys.maxsize < 2**32 else {}
-)
-PLATFORM = OF_32_BITS.get(sysconfig.get_platform(), sysconfig.get_platform())
+PLATFORM = sysconfig.get_platform()
+if sys.maxsize < 2**32:  # on a 64-bit kernel, whose name it then has
+    PLATFORM = PLATFORM.replace("x86_64", "i686").replace("aarch64", "armv7l")
 TAG = f"cp311-abi3-{re.sub('[-.]', '_', PLATFORM)}"
 STEM = f"{PROJECT['name'].replace('-', '_')}-{PROJECT['version']}"
 
@@ -133,45 +126,29 @@ def _compiled(settings):
         )
     if missing := list(_missing(is_installed)):
         raise SystemExit(f"const-oid: to be installed first: {'; '.join(missing)}")
-    link = ["-shared", "-Wl,--exclude-libs,ALL", "-s"]
-    flags = [
-        "-std=c11",
-        "-O2",
-        "-fPIC",
-        "-fno-plt",
-        "-fvisibility=hidden",
-        *shlex.split(os.environ.get("CFLAGS", "")),
-    ]
+    flags = ["-std=c11", "-O2", "-fPIC", "-fno-plt", "-fvisibility=hidden"]
+    flags += shlex.split(os.environ.get("CFLAGS", ""))
+    flags += ["-shared", "-Wl,--exclude-libs,ALL", "-s"]
     with tempfile.TemporaryDirectory() as temporary:
         include, library = _library(is_installed, temporary)
-        files = [
-            f"-I{INCLUDE}",
-            f"-I{include}",
-            *sorted(HERE.glob("src/*.c")),
-            library,
-            "-o",
-            f"{temporary}/made",
-        ]
-        _output(*COMPILER, *flags, *link, *files, *shlex.split(os.environ.get("LDFLAGS", "")))
-        return pathlib.Path(temporary, "made").read_bytes()
+        made = pathlib.Path(temporary, "made")
+        files = [f"-I{INCLUDE}", f"-I{include}", *sorted(HERE.glob("src/*.c")), library, "-o", made]
+        _output(*COMPILER, *flags, *files, *shlex.split(os.environ.get("LDFLAGS", "")))
+        return made.read_bytes()
 
 
 def _metadata():
     """The file METADATA, of the project and its page."""
-    fields = {
-        "Name": "name",
-        "Version": "version",
-        "Summary": "description",
-        "License-Expression": "license",
-    }
-    lines = ["Metadata-Version: 2.4", "Description-Content-Type: text/markdown"]
-    lines += [
-        f"{field}: {PROJECT[name]}"
-        for field, name in {**fields, "Requires-Python": "requires-python"}.items()
-    ]
-    lines += [
-        *map("License-File: {}".format, LICENCES),
-        *map("Classifier: {}".format, PROJECT["classifiers"]),
+    lines = [
+        "Metadata-Version: 2.4",
+        f"Name: {PROJECT['name']}",
+        f"Version: {PROJECT['version']}",
+        f"Summary: {PROJECT['description']}",
+        "Description-Content-Type: text/markdown",
+        f"Requires-Python: {PROJECT['requires-python']}",
+        f"License-Expression: {PROJECT['license']}",
+        *(f"License-File: {name}" for name in LICENCES),
+        *(f"Classifier: {name}" for name in PROJECT["classifiers"]),
     ]
     return "\n".join([*lines, "", ""]).encode() + (HERE / "README.md").read_bytes()
 
@@ -221,13 +198,9 @@ def build_editable(wheel_directory, config_settings=None, metadata_directory=Non
 def build_sdist(sdist_directory, config_settings=None):
     """Writes the source archive into a folder, and returns its name."""
     file, files = f"{STEM}.tar.gz", {"PKG-INFO": _metadata()}
-    for top, pattern in [(HERE, pattern) for pattern in ARCHIVED] + [
-        (TOP, pattern) for pattern in ARCHIVED_OF_TOP
-    ]:
-        files |= {
-            path.relative_to(top).as_posix(): path.read_bytes()
-            for path in sorted(top.glob(pattern))
-        }
+    for top, patterns in ((HERE, ARCHIVED), (TOP, ARCHIVED_OF_TOP)):
+        for path in sorted(path for pattern in patterns for path in top.glob(pattern)):
+            files[path.relative_to(top).as_posix()] = path.read_bytes()
     with gzip.GzipFile(f"{sdist_directory}/{file}", "wb", mtime=0) as out:
         with tarfile.open(mode="w", fileobj=out) as tar:
             for name, content in files.items():

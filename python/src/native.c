@@ -530,18 +530,18 @@ static PyMethodDef identifier_methods[] = {
         "from_bytes($type, octets, /)\n--\n\n"
         "Decodes contents octets: those after the tag and the length. An element, or the bytes of a text, may be read\n"
         "without an error as another identifier: from_der takes an element, and ObjectIdentifier a text.\n\n"
-        ">>> ObjectIdentifier.from_bytes(b\"\\x2a\\x86\\x48\"), ObjectIdentifier.from_bytes(b\"1.2\")\n"
+        ">>> ObjectIdentifier.from_bytes(b'\\x2a\\x86\\x48'), ObjectIdentifier.from_bytes(b'1.2')\n"
         "(ObjectIdentifier('1.2.840'), ObjectIdentifier('1.9.46.50'))"},
     {"from_der", identifier_from_der, METH_O | METH_CLASS,
         "from_der($type, octets, /)\n--\n\n"
         "Decodes a whole element of DER: the tag 6, the length and the contents octets, with nothing after them.\n\n"
-        ">>> ObjectIdentifier.from_der(b\"\\x06\\x03\\x2a\\x86\\x48\")\nObjectIdentifier('1.2.840')"},
+        ">>> ObjectIdentifier.from_der(b'\\x06\\x03\\x2a\\x86\\x48')\nObjectIdentifier('1.2.840')"},
     {"read_der", identifier_read_der, METH_O | METH_CLASS,
         "read_der($type, octets, /)\n--\n\n"
         "Decodes the element that octets begin with, and returns the identifier and the octets after it. Those of a\n"
         "memoryview of bytes, contiguous, of one dimension, are another one and no copy. An error has the octets of\n"
         "the element, at most 128, so that a loop takes linear time.\n\n"
-        ">>> ObjectIdentifier.read_der(b\"\\x06\\x03\\x2a\\x86\\x48\\x05\\x00\")\n"
+        ">>> ObjectIdentifier.read_der(b'\\x06\\x03\\x2a\\x86\\x48\\x05\\x00')\n"
         "(ObjectIdentifier('1.2.840'), b'\\x05\\x00')"},
     {"from_arcs", identifier_from_arcs, METH_O | METH_CLASS,
         "from_arcs($type, arcs, /)\n--\n\n"
@@ -551,19 +551,19 @@ static PyMethodDef identifier_methods[] = {
     {"child", identifier_child, METH_O,
         "child($self, arc, /)\n--\n\n"
         "The child with one more arc, which is its last.\n\n"
-        ">>> ObjectIdentifier(\"1.2\").child(840)\nObjectIdentifier('1.2.840')"},
+        ">>> ObjectIdentifier('1.2').child(840)\nObjectIdentifier('1.2.840')"},
     {"starts_with", identifier_starts_with, METH_O,
         "starts_with($self, prefix, /)\n--\n\n"
         "Whether the arcs begin with those of a prefix: whether it is this identifier or an ancestor.\n\n"
-        ">>> oid = ObjectIdentifier(\"1.2.840\")\n"
-        ">>> [oid.starts_with(ObjectIdentifier(text)) for text in (\"1.2\", \"1.2.840\", \"1.28\")]\n"
+        ">>> oid = ObjectIdentifier('1.2.840')\n"
+        ">>> [oid.starts_with(ObjectIdentifier(text)) for text in ('1.2', '1.2.840', '1.28')]\n"
         "[True, True, False]"},
     {"index", identifier_index, METH_VARARGS,
         "index($self, arc, start=0, stop=sys.maxsize, /)\n--\n\n"
-        "The first index of an arc, or a ValueError.\n\n>>> ObjectIdentifier(\"1.2.840.2\").index(2)\n1"},
+        "The first index of an arc, or a ValueError.\n\n>>> ObjectIdentifier('1.2.840.2').index(2)\n1"},
     {"count", identifier_count, METH_O,
         "count($self, arc, /)\n--\n\n"
-        "How often an arc occurs.\n\n>>> ObjectIdentifier(\"1.2.840.2\").count(2)\n2"},
+        "How often an arc occurs.\n\n>>> ObjectIdentifier('1.2.840.2').count(2)\n2"},
     {"__bytes__", identifier_bytes, METH_NOARGS, "__bytes__($self, /)\n--\n\nThe contents octets."},
     {"__format__", identifier_format, METH_O, "__format__($self, specification, /)\n--\n\nFormats str(self)."},
     {"__copy__", identifier_copied, METH_NOARGS, "__copy__($self, /)\n--\n\nItself, unless of a subclass."},
@@ -577,14 +577,14 @@ static PyMethodDef identifier_methods[] = {
 };
 
 static PyGetSetDef identifier_properties[] = {
-    {"arcs", identifier_arcs, NULL, "All arcs, as a tuple.\n\n>>> ObjectIdentifier(\"2.999\").arcs\n(2, 999)", NULL},
+    {"arcs", identifier_arcs, NULL, "All arcs, as a tuple.\n\n>>> ObjectIdentifier('2.999').arcs\n(2, 999)", NULL},
     {"der", identifier_der, NULL,
         "The element of DER: the tag 6, the length and the contents octets.\n\n"
-        ">>> ObjectIdentifier(\"1.2.840\").der\nb'\\x06\\x03*\\x86H'",
+        ">>> ObjectIdentifier('1.2.840').der\nb'\\x06\\x03*\\x86H'",
         NULL},
     {"parent", identifier_parent, NULL,
         "The parent: all arcs except the last. None if there are only two.\n\n"
-        ">>> ObjectIdentifier(\"1.2.840\").parent\nObjectIdentifier('1.2')",
+        ">>> ObjectIdentifier('1.2.840').parent\nObjectIdentifier('1.2')",
         NULL},
     {0},
 };
@@ -598,20 +598,20 @@ static PyType_Slot identifier_slots[] = {
     {Py_tp_doc,
         "ObjectIdentifier(text)\n--\n\nAn object identifier: at least two arcs of 32 bits.\n\n"
         "The constructor parses dotted text of any length, or returns an identifier that it is given.\n\n"
-        ">>> oid = ObjectIdentifier(\"2.999.3\")\n\n"
+        ">>> oid = ObjectIdentifier('2.999.3')\n\n"
         "It is an immutable sequence of its arcs (collections.abc.Sequence).\n\n"
         ">>> len(oid), oid[1], oid[-2:], list(oid), 999 in oid\n(3, 999, (999, 3), [2, 999, 3], True)\n\n"
         "It is hashable, and ordered by its arcs, as in SNMP. No tuple or text equals it.\n\n"
-        ">>> sorted(map(ObjectIdentifier, [\"1.10\", \"1.2.3\", \"1.2\"]))\n"
+        ">>> sorted(map(ObjectIdentifier, ['1.10', '1.2.3', '1.2']))\n"
         "[ObjectIdentifier('1.2'), ObjectIdentifier('1.2.3'), ObjectIdentifier('1.10')]\n"
         ">>> match oid:\n...     case ObjectIdentifier((2, 999, *rest)):\n...         print(rest)\n[3]\n\n"
-        "Patterns have arcs, and `in` seeks one: `case ObjectIdentifier(\"2.999.3\")` never matches.\n\n"
+        "Patterns have arcs, and `in` seeks one: `case ObjectIdentifier('2.999.3')` never matches.\n\n"
         "What makes an identifier of a subclass (from_bytes, parent, a copy ..) calls it with an ObjectIdentifier, so "
         "its\n__init__ runs. Copies and pickles then also get the attributes.\n\n"
         ">>> class Named(ObjectIdentifier):\n"
         "...     def __init__(self, text):\n"
         "...         self.name = names.name_of(ObjectIdentifier(text))\n"
-        ">>> Named(\"2.5.4\").child(3).name\n'cn'"},
+        ">>> Named('2.5.4').child(3).name\n'cn'"},
     {Py_tp_new, (void *)identifier_new},
     {Py_tp_dealloc, (void *)identifier_dealloc},
     {Py_tp_str, (void *)identifier_str},

@@ -1291,48 +1291,48 @@ static PyType_Spec view_spec = {
 static PyMethodDef table_methods[] = {
     {"get", NAMED(table_get),
         "get($self, /, key, default=None)\n--\n\nThe value of a key, or else a default.\n\n"
-        ">>> SortedMap().get(ObjectIdentifier(\"2.5\"), 0)\n0"},
+        ">>> SortedMap().get(ObjectIdentifier('2.5'), 0)\n0"},
     {"pop", NAMED(table_pop),
         "pop($self, /, key, default=...)\n--\n\n"
         "Removes a key and returns its value, or else a default, or raises a KeyError.\n\n"
-        ">>> SortedMap().pop(ObjectIdentifier(\"2.5\"), 0)\n0"},
+        ">>> SortedMap().pop(ObjectIdentifier('2.5'), 0)\n0"},
     {"setdefault", NAMED(table_setdefault),
         "setdefault($self, /, key, default=None)\n--\n\n"
         "The value of a key, which is set to a default if it has none.\n\n"
-        ">>> SortedMap().setdefault(ObjectIdentifier(\"2.5\"), 0)\n0"},
+        ">>> SortedMap().setdefault(ObjectIdentifier('2.5'), 0)\n0"},
     {"popitem", table_popitem, METH_NOARGS,
         "popitem($self, /)\n--\n\n"
         "Removes the last entry and returns it, or raises a KeyError if there is none.\n\n"
-        ">>> SortedMap({ObjectIdentifier(\"2.6\"): 2, ObjectIdentifier(\"2.5\"): 1}).popitem()\n"
+        ">>> SortedMap({ObjectIdentifier('2.6'): 2, ObjectIdentifier('2.5'): 1}).popitem()\n"
         "(ObjectIdentifier('2.6'), 2)"},
     {"clear", table_clear, METH_NOARGS,
         "clear($self, /)\n--\n\nRemoves all entries.\n\n"
-        ">>> table = SortedMap({ObjectIdentifier(\"2.5\"): \"directory\"})\n"
+        ">>> table = SortedMap({ObjectIdentifier('2.5'): 'directory'})\n"
         ">>> table.clear(), table\n(None, SortedMap({}))"},
     {"update", table_update, METH_VARARGS,
         "update($self, entries=(), /)\n--\n\n"
         "Sets all entries of a mapping or an iterable, or none if a key is no identifier.\n\n"
-        ">>> table = SortedMap({ObjectIdentifier(\"2.5\"): 1})\n"
-        ">>> table.update({ObjectIdentifier(\"2.5\"): 2, ObjectIdentifier(\"2.4\"): 3})\n"
+        ">>> table = SortedMap({ObjectIdentifier('2.5'): 1})\n"
+        ">>> table.update({ObjectIdentifier('2.5'): 2, ObjectIdentifier('2.4'): 3})\n"
         ">>> table\nSortedMap({ObjectIdentifier('2.4'): 3, ObjectIdentifier('2.5'): 2})"},
     {"nearest", NAMED(table_nearest),
         "nearest($self, /, oid)\n--\n\n"
         "The entry whose key is the longest prefix of an identifier, or None. A slice gives the arcs after the key.\n\n"
-        ">>> keys = ObjectIdentifier(\"2.5\"), ObjectIdentifier(\"2.5.4\")\n"
-        ">>> names = SortedMap(zip(keys, [\"directory\", \"attributes\"]))\n"
-        ">>> names.nearest(oid := ObjectIdentifier(\"2.5.4.3\"))\n(ObjectIdentifier('2.5.4'), 'attributes')\n"
+        ">>> keys = ObjectIdentifier('2.5'), ObjectIdentifier('2.5.4')\n"
+        ">>> names = SortedMap(zip(keys, ['directory', 'attributes']))\n"
+        ">>> names.nearest(oid := ObjectIdentifier('2.5.4.3'))\n(ObjectIdentifier('2.5.4'), 'attributes')\n"
         ">>> oid[len(names.nearest(oid)[0]) :]\n(3,)"},
     {"next_after", NAMED(table_next_after),
         "next_after($self, /, oid)\n--\n\n"
         "The first entry after an identifier, as GetNext of SNMP returns it, or None.\n\n"
-        ">>> names = SortedMap({ObjectIdentifier(\"2.5.4\"): 1, ObjectIdentifier(\"2.5.10\"): 2})\n"
-        ">>> names.next_after(ObjectIdentifier(\"2.5.4\"))\n(ObjectIdentifier('2.5.10'), 2)"},
+        ">>> names = SortedMap({ObjectIdentifier('2.5.4'): 1, ObjectIdentifier('2.5.10'): 2})\n"
+        ">>> names.next_after(ObjectIdentifier('2.5.4'))\n(ObjectIdentifier('2.5.10'), 2)"},
     {"subtree", NAMED(table_subtree),
         "subtree($self, /, oid)\n--\n\n"
         "All entries whose keys begin with an identifier, which may be a key itself.\n\n"
         ">>> arcs = [(2, 5, 4), (2, 5, 4, 3), (2, 6)]\n"
         ">>> names = SortedMap(zip(map(ObjectIdentifier.from_arcs, arcs), [1, 2, 3]))\n"
-        ">>> names.subtree(ObjectIdentifier(\"2.5\"))\n"
+        ">>> names.subtree(ObjectIdentifier('2.5'))\n"
         "[(ObjectIdentifier('2.5.4'), 1), (ObjectIdentifier('2.5.4.3'), 2)]"},
     {"_equals", table_equals, METH_O, "_equals($self, other, /)\n--\n\nWhether a map or a dict has the same entries."},
     {"_is_whole", table_is_whole, METH_NOARGS, "For tests."},

@@ -32,20 +32,24 @@ def raised(call, *given):  # assertRaises ends Python 3.12 where there is no mem
     try:
         call(*given)
     except (OidError, ValueError, TypeError, OverflowError, RuntimeError) as error:
-        assert (
-            getattr(error, "code", None) != Code.NOT_UTF8 or "\ud800" in error.given
-        ), "the text is UTF-8"
+        if getattr(error, "code", None) == Code.NOT_UTF8:
+            assert "\ud800" in error.given, "the text is UTF-8"
         return
     raise AssertionError("there is no error")
 
 
 Asking = type("Asking", (list,), {"__del__": lambda asking: asking[0].arcs})
 Collecting = type("Collecting", (), {"__del__": lambda _: gc.collect()})
-Other = type(
-    "Other",
-    (dict,),
-    {"__getattr__": lambda other, name: Other(), "__call__": lambda other, *_, **__: other},
-)
+
+
+class Other(dict):
+    """What has any attribute, and may be called: both are another one."""
+
+    def __getattr__(self, name):
+        return Other()
+
+    def __call__(self, *_, **__):
+        return self
 
 
 def asked(oid):
@@ -177,30 +181,22 @@ CALLS |= {
         raised(OidError, "4", 0),
     ),
 }
-OF_OID, OF_TEXT = (_native.name_of, _native.names_of, _native.display), (
-    _native.by_name,
-    _native.parse,
+OF_OID = _native.name_of, _native.names_of, _native.display
+OF_TEXT = _native.by_name, _native.parse
+CALLS["names"] = lambda: [call(_native.parse("sysUpTime.0")) for call in OF_OID]
+CALLS["names of a name"] = lambda: [call(_native.parse("2.5.4.3")) for call in OF_OID]
+CALLS["by name"] = lambda: (
+    *map(_native.by_name, ("SHA256", "\ud800")),
+    *map(_native.parse, ("sysUpTime", "2.5")),
 )
-CALLS["names"] = lambda: [
-    call(_native.parse(text)) for call in OF_OID for text in ("2.5.4.3", "sysUpTime.0")
-]
-CALLS["by name"] = lambda: [
-    call(text) for call, text in zip(2 * OF_TEXT, ("SHA256", "sysUpTime", "\ud800", "2.5"))
-]
 CALLS["wrong types"] = lambda: [raised(call, 1) for call in OF_OID + OF_TEXT]
 
 
 def in_a_cycle(table, *_):
     """Makes garbage of a map, a subclass of it, its iterators and views, and a key that refers to it."""
     key = Under("2.5")
-    key.table, held = table, (
-        GIVEN,
-        table,
-        iter(table),
-        reversed(table.items()),
-        table.items(),
-        table.values(),
-    )
+    key.table = table
+    held = [GIVEN, table, iter(table), reversed(table.items()), table.items(), table.values()]
     table.update(zip([key, *KEYS], [*held, UnderMap({OTHER: table})]))
 
 
@@ -246,35 +242,26 @@ CALLS |= {
 # What raises an exception in a function of Python, which may be lost where there is no memory.
 IN_PYTHON = ("copies of", "finalizer", "hooks", "pickles", "error", "wrong error")
 KEPT = [
-    ObjectIdentifier,
-    Under,
-    OidError,
+    *KEYS,
+    *OCTETS.values(),
     UNDER,
     GIVEN,
     OTHER,
     bytes(OTHER),
     WRONG,
-    str,
-    tuple,
     const_oid,
+    ObjectIdentifier,
 ]
-KEPT += [
-    SortedMap,
-    type(iter(SortedMap())),
-    type(SortedMap().items()),
-    _native.restored,
-    *KEYS,
-    *OCTETS.values(),
-]
-KEPT += [ObjectIdentifier.__name__, Under.__name__, None, True, False, NotImplemented, b"*", b"", 1]
+KEPT += [Under, OidError, SortedMap, type(iter(SortedMap())), type(SortedMap().items()), str, tuple]
+KEPT += [ObjectIdentifier.__name__, Under.__name__, _native.restored, NotImplemented, None]
+KEPT += [True, False, b"*", b"", 1]
 HELD = 6000 * KEPT  # so that a reference given up too often frees none
 
 
 def measured():
     """Octets in use, references of all objects, which a debug build counts, and those of each that is kept."""
-    (
-        getattr(sys, "_clear_internal_caches", None) or sys._clear_type_cache
-    )()  # of names that pickles make anew
+    # Of names that pickles make anew.
+    getattr(sys, "_clear_internal_caches", getattr(sys, "_clear_type_cache", None))()
     gc.collect()
     counts = [sys.getrefcount(value) for value in KEPT]
     return tracemalloc.get_traced_memory()[0], getattr(sys, "gettotalrefcount", int)(), counts
@@ -301,9 +288,8 @@ class Memory(unittest.TestCase):
         for name, call in CALLS.items():
             with self.subTest(name):
                 # The first rounds also fill caches of Python.
-                self.assertTrue(
-                    any(keeps_nothing(call) for _ in range(50)), "it keeps memory or a reference"
-                )
+                rounds = (keeps_nothing(call) for _ in range(50))
+                self.assertTrue(any(rounds), "it keeps memory or a reference")
 
     def test_a_class_ends_though_its_own_map_refers_to_it(self):
         for base in (SortedMap, ObjectIdentifier):
@@ -316,12 +302,9 @@ class Memory(unittest.TestCase):
     @unittest.skipUnless(_testcapi, "Python's module for tests of its C API is not installed")
     def test_functions_raise_memory_error(self):
         """A call whose n-th allocation fails raises MemoryError, for each n, or has its result without it."""
-        for name, call in CALLS.items():
+        calls = {name: call for name, call in CALLS.items() if not name.startswith(IN_PYTHON)}
+        for name, call in calls.items():
             with self.subTest(name):
                 wanted = call(), MemoryError
-                for _, found in (
-                    ()
-                    if name.startswith(IN_PYTHON)
-                    else without_memory(lambda _: call(), int, tuples=0)
-                ):
+                for _, found in without_memory(lambda _: call(), int, tuples=0):
                     self.assertIn(found, wanted)

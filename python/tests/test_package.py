@@ -23,9 +23,8 @@ from const_oid import Code, ObjectIdentifier, OidError, SortedMap, names, sorted
 from test_values import Under, error_of, is_linear
 
 TOP = pathlib.Path(__file__).resolve().parents[2]
-STUB = (
-    (TOP / "python/src/const_oid/_native.pyi").read_text(encoding="utf-8").split("class Table(")[0]
-)
+STUB = (TOP / "python/src/const_oid/_native.pyi").read_text(encoding="utf-8")
+STUB = STUB.split("class Table(")[0]
 HEADER = (TOP / "crates/const_oid_c/include/const_oid.h").read_text(encoding="utf-8")
 
 
@@ -62,29 +61,23 @@ class Package(unittest.TestCase):
                 try:
                     exec(block, variables)
                 except ImportError as error:
-                    self.assertRegex(
-                        block, "^(import|from) (asn1crypto|cryptography|numpy|pandas|pyasn1)"
-                    )
+                    others = "asn1crypto|cryptography|numpy|pandas|pyasn1"
+                    self.assertRegex(block, f"^(import|from) ({others})")
                     self.skipTest(str(error))
                 self.assertEqual(wanted, out.getvalue().splitlines())
 
     def test_the_walk_finds_elements_and_errors(self):
         """Each element with the tag 6 has its place. What is cut or goes on too far, and a long tag, are errors."""
-        sources = (
-            example.source for example in doctest.DocTestParser().get_examples(const_oid.__doc__)
-        )
+        examples = doctest.DocTestParser().get_examples(const_oid.__doc__)
         variables = {**vars(const_oid), "contextlib": contextlib}
-        exec(next(source for source in sources if "def " in source), variables)
+        exec(next(one.source for one in examples if "def " in one.source), variables)
 
         def found(der):
-            return [
-                (place, getattr(oid, "code", str(oid)))
-                for place, oid in variables["identifiers"](der)
-            ]
+            walk = variables["identifiers"](der)
+            return [(place, getattr(oid, "code", str(oid))) for place, oid in walk]
 
-        octets = (
-            "06032A0304 A004 06022A80 048105 0603550403 040506012A0603 80012A 03040006012A 0681012A"
-        )
+        octets = "06032A0304 A004 06022A80 048105 0603550403 040506012A0603 80012A"
+        octets += "03040006012A 0681012A"
         whole = bytes.fromhex(octets) + b"\6\x7f" + bytes(127) + b"\6\x81\x80" + bytes(128)
         whole = b"\x30\x82" + len(whole).to_bytes(2) + whole
         wanted = [(4, "1.2.3.4"), (11, Code.BASE128), (18, "2.5.4.3"), (39, Code.NO_ELEMENT)]
@@ -96,9 +89,8 @@ class Package(unittest.TestCase):
         for _ in range(sys.getrecursionlimit()):
             deep = b"\x30\x82" + len(deep).to_bytes(2) + deep
         self.assertIs(RecursionError, type(error_of(found, deep)))
-        self.assertEqual(
-            [(len(deep) + 4, "1.2")], found(b"\4\x82" + len(deep).to_bytes(2) + deep + b"\6\1\x2a")
-        )
+        wanted, der = [(len(deep) + 4, "1.2")], b"\4\x82" + len(deep).to_bytes(2) + deep
+        self.assertEqual(wanted, found(der + b"\6\1\x2a"))
         self.assertTrue(is_linear(found, lambda count: (b"\6\x0d\x2a" + bytes(12)) * count))
 
     def test_numpy_and_pandas_take_an_identifier_as_one_value(self):
@@ -133,135 +125,99 @@ class Package(unittest.TestCase):
 
     def test_pydantic_takes_and_gives_text(self):
         """pydantic, and the version 1 that is in version 2, take text or an identifier, and give text in JSON."""
-        oid, texts = ObjectIdentifier("2.5.4"), {
-            "oid": "2.5.4",
-            "key": type("Text", (str,), {})("2.5.4.3"),
-        }
+        oid = ObjectIdentifier("2.5.4")
+        texts = {"oid": "2.5.4", "key": type("Text", (str,), {})("2.5.4.3")}
         found = self.enterContext(installed("pydantic", "pydantic.v1"))
-        for model in [
-            one.create_model("Model", oid=(ObjectIdentifier, ...), key=(Under, ...))
-            for one in found
-        ]:
+        fields = {"oid": (ObjectIdentifier, ...), "key": (Under, ...)}
+        for model in [one.create_model("Model", **fields) for one in found]:
             with self.subTest(model):
-                for made in (
-                    model(**texts),
-                    model(oid=oid, key=oid.child(3)),
-                    model(oid=oid, key=Under("2.5.4.3")),
-                ):
-                    self.assertEqual(
-                        (oid, oid.child(3), Under), (made.oid, made.key, type(made.key))
-                    )
-                    self.assertEqual(
-                        (texts, made), (json.loads(made.json()), model.parse_raw(made.json()))
-                    )
+                made = model(oid=oid, key=oid.child(3)), model(oid=oid, key=Under("2.5.4.3"))
+                for one in (model(**texts), *made):
+                    wanted = oid, oid.child(3), Under
+                    self.assertEqual(wanted, (one.oid, one.key, type(one.key)))
+                    self.assertEqual(texts, json.loads(one.json()))
+                    self.assertEqual(one, model.parse_raw(one.json()))
                 for wrong in ("1.40", 3, None, [2, 5], b"2.5.4", bytearray(b"2.5.4")):
-                    self.assertIsInstance(
-                        error_of(lambda: model(oid=wrong, key="2.5.4.3")), ValueError
-                    )
+                    error = error_of(lambda: model(oid=wrong, key="2.5.4.3"))
+                    self.assertIsInstance(error, ValueError)
                 error = error_of(lambda: model(oid="1.40", key="2.5.4.3"))
                 for text in (str(error), error.json(), repr(error.errors())):
                     self.assertIn("OID contains out-of-range arc: 40, given '1.40'", text)
                 self.assertIn(error.errors()[0]["type"], ("value_error", "value_error.oid"))
                 if hasattr(model, "model_json_schema"):
-                    self.assertEqual(
-                        "string", model.model_json_schema()["properties"]["oid"]["type"]
-                    )
+                    schema = model.model_json_schema()
+                    self.assertEqual("string", schema["properties"]["oid"]["type"])
         if not found:
             self.skipTest("pydantic is not installed")
 
     def test_codes_and_version_are_those_of_the_header(self):
-        codes = dict(
-            re.findall(
-                r"CONST_OID_(\w+) = (\d+)", HEADER.split("enum const_oid_code")[1].split("}")[0]
-            )
-        )
-        version = ".".join(
-            re.search(rf"VERSION_{part} (\d+)", HEADER)[1] for part in ("MAJOR", "MINOR", "PATCH")
-        )
-        found = {code.name: str(int(code)) for code in Code} | {"OK": "0"}, const_oid.__version__
-        self.assertEqual((codes, version), found)
+        codes = HEADER.split("enum const_oid_code")[1].split("}")[0]
+        codes = dict(re.findall(r"CONST_OID_(\w+) = (\d+)", codes))
+        version = re.findall(r"define CONST_OID_VERSION_\w+ (\d+)", HEADER)
+        found = {code.name: str(int(code)) for code in Code} | {"OK": "0"}
+        self.assertEqual((codes, ".".join(version)), (found, const_oid.__version__))
 
     def test_public_names(self):
         public = {"Code", "ObjectIdentifier", "OidError", "SortedMap", "__version__", "names"}
         self.assertEqual((public, public), (set(const_oid.__all__), set(dir(const_oid))))
-        self.assertEqual(
-            "by_name common_entries display entries name_of names_of parse", " ".join(names.__all__)
-        )
+        functions = "by_name common_entries display entries name_of names_of parse"
+        self.assertEqual(functions.split(), names.__all__)
         methods = "arcs child count der from_arcs from_bytes from_der index ndim parent read_der starts_with"
-        self.assertEqual(
-            methods.split(), [name for name in dir(ObjectIdentifier) if not name.startswith("_")]
-        )
-        same = [call() is call() for call in (names.entries, names.common_entries)]
-        self.assertEqual((0, [True, True]), (ObjectIdentifier("2.5").ndim, same))
-        self.assertEqual(
-            {"const_oid"}, {value.__module__ for value in (ObjectIdentifier, OidError, Code)}
-        )
-        self.assertEqual(
-            (Code.EMPTY, 5, set(Code.__members__)), (Code(5), Code.EMPTY, set(dir(Code)))
-        )
-        self.assertEqual(
-            ["class Code(", "class OidEr"],
-            [inspect.getsource(kind)[:11] for kind in (Code, OidError)],
-        )
+        found = [name for name in dir(ObjectIdentifier) if not name.startswith("_")]
+        self.assertEqual(methods.split(), found)
+        for call in (names.entries, names.common_entries):
+            self.assertIs(call(), call())
+        for kind in (ObjectIdentifier, OidError, Code):
+            self.assertEqual("const_oid", kind.__module__)
+        for kind in (OidError, Code):
+            self.assertTrue(inspect.getsource(kind).startswith(f"class {kind.__name__}("))
+        self.assertEqual(0, ObjectIdentifier("2.5").ndim)
+        self.assertEqual((Code.EMPTY, 5), (Code(5), Code.EMPTY))
+        self.assertEqual(set(Code.__members__), set(dir(Code)))
 
     @unittest.skipIf(sys.version_info < (3, 15), "this Python has no lazy imports")
     def test_imports_may_be_lazy(self):
         code = "from collections.abc import Sequence; from const_oid import ObjectIdentifier as kind; print({})"
-        for call in (
-            "kind('1.x')",
-            "kind(1)",
-            "type('', (kind,), {})('2.5').__copy__()",
-            "issubclass(kind, Sequence)",
-        ):
+        calls = "kind('1.x')", "kind(1)", "type('', (kind,), {})('2.5').__copy__()"
+        for call in (*calls, "issubclass(kind, Sequence)"):
             command = [sys.executable, "-X", "lazy_imports=all", "-c", code.format(call)]
             run = subprocess.run(command, text=True, capture_output=True)
-            self.assertRegex(
-                run.stdout + run.stderr, r"^2\.5$|^True$|\n(const_oid\.Oid|Type)Error: ", call
-            )
+            wanted = r"^2\.5$|^True$|\n(const_oid\.Oid|Type)Error: "
+            self.assertRegex(run.stdout + run.stderr, wanted, call)
 
     def test_help_has_what_is_public(self):
         said = pydoc.render_doc(const_oid, renderer=pydoc.plaintext)
         self.assertEqual(const_oid.__all__[:4], re.findall(r"^    class (\w+)", said, re.M))
-        for field, words in {
-            "code": "Why",
-            "detail": "The arc",
-            "given": "The text",
-            "piece": "The index",
-        }.items():
+        fields = {"code": "Why", "detail": "The arc", "given": "The text", "piece": "The index"}
+        for field, words in fields.items():
             self.assertRegex(said, rf" {field}\n .*{words}")
         self.assertNotRegex(said, r"\nFUNCTIONS\n|builtins\.int:|bit_length")
 
     def test_functions_have_examples(self):
         for owner in (names, ObjectIdentifier, OidError, SortedMap, SortedMap.__base__):
-            for name in getattr(
-                owner, "__all__", [name for name in vars(owner) if not name.startswith("_")]
-            ):
+            public = [name for name in vars(owner) if not name.startswith("_")]
+            for name in getattr(owner, "__all__", public):
                 value = getattr(owner, name, None)
                 if callable(value) or isinstance(value, (property, types.GetSetDescriptorType)):
                     self.assertIn(">>> ", inspect.getdoc(value), name)
 
     def test_the_stub_has_the_arguments(self):
         functions = dict(re.findall(r"^    def (\w+)\((.*)\) ->", STUB, re.M))
-        self.assertEqual(
-            {"ndim"}, {name for name in vars(ObjectIdentifier) if name[0] != "_"} - set(functions)
-        )
+        public = {name for name in vars(ObjectIdentifier) if not name.startswith("_")}
+        self.assertEqual({"ndim"}, public - set(functions))
         self.assertIn("@disjoint_base\nclass ObjectIdentifier(", STUB)
         self.assertIs(TypeError, type(error_of(type, "Both", (ObjectIdentifier, int), {})))
         methods = "from_bytes from_der read_der from_arcs child starts_with index count __format__ __deepcopy__"
         for name in methods.split():
             text = inspect.getattr_static(ObjectIdentifier, name).__text_signature__
-            self.assertEqual(
-                re.findall(r", (\w+):.*?(?=, )", functions[name]),
-                re.findall(r", (\w+)", text),
-                name,
-            )
+            declared = re.findall(r", (\w+):.*?(?=, )", functions[name])
+            self.assertEqual(re.findall(r", (\w+)", text), declared, name)
             self.assertTrue(functions[name].endswith(", /") and text.endswith(", /)"), name)
 
     def test_the_stub_has_the_results(self):
         oid = Under("1.2.840")
-        calls = (
-            "read_der(memoryview(oid.der)) read_der(oid.der) __getitem__(0) __getitem__(slice(9)) "
-        )
+        calls = "read_der(memoryview(oid.der)) read_der(oid.der) __getitem__(0) "
+        calls += "__getitem__(slice(9)) "
         calls += "arcs der child(1) from_bytes(bytes(oid)) from_der(oid.der) from_arcs(oid) starts_with(oid) index(2)"
         calls += " count(2) __len__() __bytes__() __format__('') __hash__() __lt__(oid) __gt__(oid) __deepcopy__({})"
 
@@ -274,12 +230,10 @@ class Package(unittest.TestCase):
         made = {}
         for call in calls.split():
             made.setdefault(call.partition("(")[0], []).append(described(eval(f"oid.{call}")))
-        self.assertEqual(
-            {name: re.findall(rf"def {name}\(.*\) -> (.*): ", STUB) for name in made}, made
-        )
-        self.assertEqual(
-            (["parent"], None), (re.findall(r"def (\w+)\(self.*None:", STUB), typed.uses())
-        )
+        for name, results in made.items():
+            self.assertEqual(re.findall(rf"def {name}\(.*\) -> (.*): ", STUB), results)
+        self.assertEqual(["parent"], re.findall(r"def (\w+)\(self.*None:", STUB))
+        typed.uses()
 
     @unittest.skipUnless(shutil.which("mypy"), "mypy is not installed")
     def test_mypy_accepts_declared_uses(self):

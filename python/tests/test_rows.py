@@ -10,9 +10,8 @@ import unittest
 from const_oid import ObjectIdentifier, OidError, SortedMap, names
 from const_oid._native import error_text, wrong_component
 
-ROWS = pathlib.Path(
-    os.environ.get("ROWS", pathlib.Path(__file__).resolve().parents[2] / "crates/oid_rows/stdin")
-)
+TOP = pathlib.Path(__file__).resolve().parents[2]
+ROWS = pathlib.Path(os.environ.get("ROWS", TOP / "crates/oid_rows/stdin"))
 
 
 def oid_of(digits):
