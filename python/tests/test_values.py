@@ -402,16 +402,14 @@ class Identifiers(unittest.TestCase):
         }
         for octets, count in found.items():
             source, view, *others = buffers_of(octets)
-            for error in [
-                error_of(ObjectIdentifier.read_der, given) for given in (source, view, *others)
-            ]:
+            for given in (source, view, *others):
+                error = error_of(ObjectIdentifier.read_der, given)
                 self.assertEqual((bytes, octets[:count]), (type(error.given), error.given))
                 self.assertEqual({str(error)}, {str(other) for other in copies_of(error)})
             view.release()
             del source[:]
-            self.assertTrue(
-                str(error).endswith(", given " + const_oid._shown(octets[:count])), error
-            )
+            shown = ", given " + const_oid._shown(octets[:count])
+            self.assertTrue(str(error).endswith(shown), error)
 
     def test_arcs_come_from_any_iterable(self):
         """Arcs are those of a list before it changes, and no other call comes between them."""
@@ -423,7 +421,8 @@ class Identifiers(unittest.TestCase):
             from_arcs([2, index(lambda: from_arcs((1, 2, 5))), 3]),
         ]
         for change in ("clear", "pop", "reverse"):
-            (arcs := [2]).extend([index(getattr(arcs, change)), 3])
+            arcs = [2]
+            arcs += [index(getattr(arcs, change)), 3]
             made.append(from_arcs(arcs))
         self.assertEqual((["2.999.3"] * 5, 2), ([*map(str, made)], own.call_count))
 
@@ -442,23 +441,15 @@ class Identifiers(unittest.TestCase):
             "oid.__copy__()": type(None),
             "copy(oid)": type(None),
         }
-        scope = {
-            "__builtins__": {},
-            "kind": ObjectIdentifier,
-            "oid": Named("2.999"),
-            "copy": copy.deepcopy,
-        }
+        scope = {"kind": ObjectIdentifier, "oid": Named("2.999"), "copy": copy.deepcopy}
+        scope["__builtins__"] = {}
         with mock.patch.dict(sys.modules), mock.patch.dict(vars(const_oid)):
-            for missing in (
-                [],
-                ["const_oid"],
-                [name for name in sys.modules if name.startswith("const_oid")],
-            ):
+            all_of_it = [name for name in sys.modules if name.startswith("const_oid")]
+            for missing in ([], ["const_oid"], all_of_it):
                 for name in missing:
                     del sys.modules[name]
-                self.assertEqual(
-                    calls, {call: type(error_of(eval, call, {**scope})) for call in calls}
-                )
+                for call, kind in calls.items():
+                    self.assertIs(kind, type(error_of(eval, call, {**scope})))
                 importlib.import_module("const_oid")
 
     def test_errors_say_what_is_wrong(self):
@@ -490,56 +481,39 @@ class Identifiers(unittest.TestCase):
 
     def test_identifiers_have_any_length(self):
         """Up to 350,000 octets, of the greatest arcs in one octet, whose text has four bytes for each, and of all."""
-        greatest = (b"\x7f", b"\x7f", 47, 127), (
+        small, great = (b"\x7f", 47, b"\x7f", 127), (
             b"\x90\x80\x80\x80\x4f",
+            2**32 - 1,
             GREATEST,
-            *[2**32 - 1] * 2,
+            2**32 - 1,
         )
         counts = 126, 127, 128, 253, 254, 255, 256, 257, 1000, 65_534, 65_535, 70_000
-        for count, (first, later, second, arc) in itertools.product(counts, greatest):
+        for count, (first, second, later, arc) in itertools.product(counts, (small, great)):
             arcs, octets = (2, second, *[arc] * count), first + later * count
-            oid, same = ObjectIdentifier(text := ".".join(map(str, arcs))), from_bytes(octets)
+            text = ".".join(map(str, arcs))
+            oid, same = ObjectIdentifier(text), from_bytes(octets)
             child, parent = oid.child(2**32 - 1), oid.parent
-            pairs = [
-                (octets, bytes(oid)),
-                (octets, bytes(from_arcs(arcs))),
-                (len(arcs), len(oid)),
-                (arcs, oid.arcs),
-            ]
-            pairs += [
-                (text, str(oid)),
-                (arcs[1:], oid[1:]),
-                (arcs[::-1], oid[::-1]),
-                (arcs.count(arc), oid.count(arc)),
-            ]
-            pairs += [
-                (f"ObjectIdentifier('{text}')", repr(oid)),
-                (same, oid),
-                (hash(same), hash(oid)),
-            ]
-            pairs += [
-                (octets + GREATEST, bytes(child)),
-                (octets, bytes(child.parent)),
-                (arcs[:-1], parent.arcs),
-            ]
-            pairs += [
-                (oid, parent.child(arc)),
-                (oid, from_der(oid.der)),
-                ((oid, b"\0"), oid.read_der(oid.der + b"\0")),
-            ]
-            wrong = (
-                (ObjectIdentifier, text + ".x"),
-                (from_bytes, octets + b"\x80"),
-                (from_arcs, (*arcs, 2**32)),
-            )
-            pairs += zip([(4, 120), (3, 0), (2, 0)], [error_of(*call).args for call in wrong])
-            pairs += [(False, oid == from_bytes(octets + bytes(256)))]
             # Long values that differ would take minutes to print.
-            self.assertEqual(
-                [],
-                [at for at, (wanted, found) in enumerate(pairs) if wanted != found],
-                (count, arc),
-            )
+            right = [
+                oid == same and hash(oid) == hash(same),
+                not oid == from_bytes(octets + bytes(256)),
+                octets == bytes(oid) == bytes(from_arcs(arcs)) == bytes(child.parent),
+                octets + GREATEST == bytes(child),
+                text == str(oid),
+                f"ObjectIdentifier('{text}')" == repr(oid),
+                arcs == oid.arcs,
+                arcs[:-1] == parent.arcs,
+                arcs[1:] == oid[1:],
+                arcs[::-1] == oid[::-1],
+                arcs.count(arc) == oid.count(arc),
+                len(arcs) == len(oid),
+                oid == parent.child(arc) == from_der(oid.der),
+                (oid, b"\0") == oid.read_der(oid.der + b"\0"),
+                (4, 120) == error_of(ObjectIdentifier, text + ".x").args,
+                (3, 0) == error_of(from_bytes, octets + b"\x80").args,
+                (2, 0) == error_of(from_arcs, (*arcs, 2**32)).args,
+            ]
+            self.assertTrue(all(right), (count, arc, right))
 
     def test_long_inputs_take_linear_time(self):
         def read(rest):
@@ -575,31 +549,27 @@ class Identifiers(unittest.TestCase):
         """As with tuple, it is the same object, but not of a subclass: else its __init__ would run again."""
         text, source = type("Text", (str,), {})(OID), Named("2.999")
         made = [
-            Under(OID),
             ObjectIdentifier(Under(OID)),
             ObjectIdentifier(text),
             ObjectIdentifier(text=str(OID)),
         ]
-        self.assertEqual(
-            ([Under, *[ObjectIdentifier] * 3], [OCTETS] * 4),
-            ([*map(type, made)], [*map(bytes, made)]),
-        )
+        self.assertEqual([OCTETS] * 4, [*map(bytes, [Under(OID), *made])])
+        self.assertEqual({ObjectIdentifier}, {*map(type, made)})
+        self.assertIs(Under, type(Under(OID)))
         OID.__init__("2.5")
         setattr(type("Other", (ObjectIdentifier,), {}), "other", 1)
         self.assertEqual((True, "1.2.840.10045.2.1"), (ObjectIdentifier(OID) is OID, str(OID)))
         made = [
-            Named.from_bytes(b"\x88\x37"),
-            Named.from_arcs((2, 999)),
-            Named("2.999.1").parent,
-            Named("2.999"),
+            (Named.from_bytes(b"\x88\x37"), "2.999"),
+            (Named.from_arcs((2, 999)), "2.999"),
+            (Named("2.999.1").parent, "2.999"),
+            (Named("2.999"), "2.999"),
+            (Named.read_der(source.der)[0], "2.999"),
+            (Named(source), "2.999"),
+            (Named(OID).parent.parent.parent.parent.child(3).parent, "1.2"),
+            (source.child(7), "2.999.7"),
         ]
-        made += [
-            Named.read_der(source.der)[0],
-            Named(source),
-            Named(OID).parent.parent.parent.parent.child(3).parent,
-        ]
-        made.append(source.child(7))
-        for oid, text in zip(made, [*["2.999"] * 6, "1.2", "2.999.7"]):
+        for oid, text in made:
             self.assertEqual((Named, text, text, 1), (type(oid), str(oid), oid.text, oid.calls))
 
     def test_copies_of_a_subclass_have_its_attributes(self):
@@ -656,41 +626,30 @@ class Identifiers(unittest.TestCase):
             self.assertEqual(wanted, found, (left, right))
 
     def test_an_identifier_is_a_sequence(self):
-        kinds = isinstance(OID, collections.abc.Sequence), isinstance(
-            TABLE, collections.abc.MutableMapping
-        )
-        found = [*OID], [*reversed(OID)], len(OID), OID[3::2], kinds
-        self.assertEqual(
-            ([1, 2, 840, 10045, 2, 1], [1, 2, 10045, 840, 2, 1], 6, (10045, 1), (True, True)), found
-        )
+        self.assertIsInstance(OID, collections.abc.Sequence)
+        self.assertIsInstance(TABLE, collections.abc.MutableMapping)
+        found = [*OID], [*reversed(OID)], len(OID), OID[3::2]
+        self.assertEqual(([1, 2, 840, 10045, 2, 1], [1, 2, 10045, 840, 2, 1], 6, (10045, 1)), found)
         items = [840, 841, True, 10**5000, *OCTETS[1:5], "1", None, OID, 1.0]
         self.assertEqual([0, 2, 11], [place for place, item in enumerate(items) if item in OID])
         self.assertEqual((1, 4, 2), (OID.index(2), OID.index(2, 2), OID.count(1)))
-        self.assertEqual(
-            (IndexError, 1),
-            (type(error_of(OID.__getitem__, index(own := mock.Mock()))), own.call_count),
-        )
+        error = error_of(OID.__getitem__, index(own := mock.Mock()))
+        self.assertEqual((IndexError, 1), (type(error), own.call_count))
         item = ctypes.pythonapi.PySequence_GetItem
         item.argtypes, item.restype = (ctypes.py_object, ctypes.c_ssize_t), ctypes.py_object
         bounds = (-(10**50), *range(-8, 9), 10**50)
-        calls = [
-            (operator.getitem, 10**50),
-            *itertools.product((operator.getitem, item), range(-13, 9)),
-        ]
-        calls += [
-            (tuple.index, 1, *given) for given in [*zip(bounds), *itertools.product(bounds, bounds)]
-        ]
+        calls = [*itertools.product((operator.getitem, item), range(-13, 9))]
+        calls.append((operator.getitem, 10**50))
+        for given in [*zip(bounds), *itertools.product(bounds, bounds)]:
+            calls.append((tuple.index, 1, *given))
         for call, *given in calls:
-            own, error = ObjectIdentifier.index if call is tuple.index else call, error_of(
-                call, OID.arcs, *given
-            )
+            own = ObjectIdentifier.index if call is tuple.index else call
+            error = error_of(call, OID.arcs, *given)
             self.assertIs(type(error), type(error_of(own, OID, *given)), given)
             self.assertTrue(error or call(OID.arcs, *given) == own(OID, *given), given)
         oid, row = ObjectIdentifier("1.2.3"), csv.writer(mock.Mock(write=str.strip)).writerow
-        self.assertEqual(
-            (b"*\3", b"\1\2\3", "1,2,3", "1.2.3"),
-            (bytes(oid), bytearray(oid), row(oid), row([oid])),
-        )
+        self.assertEqual((b"*\3", b"\1\2\3"), (bytes(oid), bytearray(oid)))
+        self.assertEqual(("1,2,3", "1.2.3"), (row(oid), row([oid])))
         for oid in (OID, Under(OID)):
             match oid, oid:
                 case [1, 2, 840, *rest], ObjectIdentifier((1, 2, *others)):
@@ -699,10 +658,8 @@ class Identifiers(unittest.TestCase):
                     self.fail("an identifier is no sequence, or has no arcs in a pattern")
 
     def test_format_is_that_of_the_text(self):
-        self.assertEqual(
-            "   2.999|2.999*|2.9|2.999",
-            "{0:>8}|{0:*<6}|{0:.3}|{0}".format(ObjectIdentifier("2.999")),
-        )
+        oid = ObjectIdentifier("2.999")
+        self.assertEqual("   2.999|2.999*|2.9|2.999", f"{oid:>8}|{oid:*<6}|{oid:.3}|{oid}")
         said = type("Said", (ObjectIdentifier,), {"__str__": lambda oid: "said"})("2.999")
         self.assertEqual("said, said|  said|Said('2.999')", f"{said}, {said!s}|{said:>6}|{said!r}")
 
@@ -711,30 +668,28 @@ class Identifiers(unittest.TestCase):
         references = [weakref.ref(oid, seen.append), weakref.ref(plain, seen.append)]
         self.assertEqual([oid, plain], [reference() for reference in references])
         del oid, plain
-        self.assertEqual(
-            ([None, None], references), ([reference() for reference in references], seen)
-        )
+        self.assertEqual([None, None], [reference() for reference in references])
+        self.assertEqual(references, seen)
 
     def test_fields_of_an_error_are_attributes(self):
         """They may change, and are in vars and copies, also of a subclass with another base, or one that sets none."""
         given = error_of(ObjectIdentifier, "1.40")
         self.assertEqual({"code": Code.ARC_INVALID, "detail": 40, "given": "1.40"}, vars(given))
-        shown = ["OidError(Code.ARC_INVALID, 40, '1.40')", "OidError(Code.DIGIT_EXPECTED, 255)"]
-        self.assertEqual((Code, shown), (type(given.code), [repr(given), repr(OidError(4, 255))]))
-        self.assertEqual(
-            ["expected digit, got 'ÿ'", "DIGIT_EXPECTED 256"],
-            [str(OidError(4, n)) for n in (255, 256)],
-        )
-        self.assertEqual((None, None), (OidError(4, 120).piece, OidError(4, 120, "1.2").piece))
+        self.assertIs(Code, type(given.code))
+        self.assertEqual("OidError(Code.ARC_INVALID, 40, '1.40')", repr(given))
+        self.assertEqual("OidError(Code.DIGIT_EXPECTED, 255)", repr(OidError(4, 255)))
+        self.assertEqual("expected digit, got 'ÿ'", str(OidError(4, 255)))
+        self.assertEqual("DIGIT_EXPECTED 256", str(OidError(4, 256)))
+        for error in (OidError(4, 120), OidError(4, 120, "1.2")):
+            self.assertIsNone(error.piece)
         old = b"cconst_oid\nOidError\n(I1\nI40\ntR(dVcode\ncconst_oid\nCode\n(I3\ntRsVdetail\nI7\nsVgiven\nVx\nsb."
         fields = {"code": Code.BASE128, "detail": 7, "given": "x"}
         self.assertEqual(fields, vars(pickle.loads(old)))
         for error, wanted in ((given, fields), (OfSystem(1, 40), fields), (Bare(1, 40), {})):
             error.__setstate__(wanted)
             for other in [weakref.ref(error)(), copy.copy(error), *copies_of(error)]:
-                self.assertEqual(
-                    (type(error), (1, 40), wanted), (type(other), other.args, vars(other))
-                )
+                found = type(other), other.args, vars(other)
+                self.assertEqual((type(error), (1, 40), wanted), found)
             error.given = 1
             del error.given
             self.assertFalse(hasattr(error, "given"))
