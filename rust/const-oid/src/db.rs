@@ -90,7 +90,7 @@ pub const SORTED: SortedDatabase<'static> = SortedDatabase::new_unchecked(&IN_OR
 static IN_ORDER: [(&ObjectIdentifierRef, &str); DB.len()] = in_order(&ENTRIES, &ORDER);
 
 /// The names that people type and [`DB`] lacks, of OpenSSL, MIBs, FIPS, the CA/Browser Forum and Microsoft. A few that
-/// [`DB`] has are here for another identifier, such as `DSA`. [`by_name`] has an example.
+/// [`DB`] has are here for another identifier, such as `DSA`: docs/NAMES.md lists them. [`by_name`] has an example.
 pub const COMMON: Database<'static> = Database::new(&COMMON_ENTRIES).linked(&COMMON_OID_LINKS, &COMMON_NAME_LINKS);
 
 /// The entries of [`COMMON`] in the order of arcs. [`SortedDatabase`] has an example.
