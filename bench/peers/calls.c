@@ -8,22 +8,31 @@
 #include "limit.c"
 #undef octets_to_text
 
-static inline void *put_number(void *to, uint64_t number) { return *(uint32_t *)to = (uint32_t)number, to + 4; }
+static inline void *put_number(void *to, uint64_t number) {
+    *(uint32_t *)to = (uint32_t)number;
+    return to + 4;
+}
 
-static inline void *put_nothing(void *to, uint64_t number) { return to; }
+static inline void *put_nothing(void *to, uint64_t number) {
+    return to;
+}
 
 static inline int read_element(const uint8_t *der, size_t len) {
     size_t head = len < 3 || der[0] != 6 ? 0 : der[1] < 0x80 ? 2 : der[1] == 0x81 ? 3 : der[1] == 0x82 ? 4 : 0;
     size_t size = head == 2 ? der[1] : head == 3 ? der[2] : head == 4 ? (size_t)(der[2] << 8 | der[3]) : 0;
-    if (head == 0 || len < head + size || (head == 3 && size < 0x80) || (head == 4 && size < 0x100)) return 0;
+    if (head == 0 || len < head + size || (head == 3 && size < 0x80) || (head == 4 && size < 0x100))
+        return 0;
     return put_arcs((void *)der, der + head, size, put_nothing) != NULL;
 }
 
 static inline size_t write_element(const uint8_t *octets, size_t len, uint8_t *out) {
     size_t head = len < 0x80 ? 2 : len < 0x100 ? 3 : 4;
-    out[0] = 6, out[1] = (uint8_t)(head == 2 ? len : 0x7E + head);
-    if (head > 3) out[2] = (uint8_t)(len >> 8);
-    if (head > 2) out[head - 1] = (uint8_t)len;
+    out[0] = 6;
+    out[1] = (uint8_t)(head == 2 ? len : 0x7E + head);
+    if (head > 3)
+        out[2] = (uint8_t)(len >> 8);
+    if (head > 2)
+        out[head - 1] = (uint8_t)len;
     memcpy(out + head, octets, len);
     return head + len;
 }
@@ -31,9 +40,12 @@ static inline size_t write_element(const uint8_t *octets, size_t len, uint8_t *o
 /* The order of arcs: where octets differ, the longer subidentifier is greater. */
 static inline int by_arcs(const uint8_t *a, size_t a_len, const uint8_t *b, size_t b_len) {
     size_t i = 0, j;
-    while (i < a_len && i < b_len && a[i] == b[i]) i++;
-    if (i == a_len || i == b_len) return i < a_len ? 1 : i < b_len ? -1 : 0;
-    for (j = i; a[j] >= 0x80 && b[j] >= 0x80;) j++;
+    while (i < a_len && i < b_len && a[i] == b[i])
+        i++;
+    if (i == a_len || i == b_len)
+        return i < a_len ? 1 : i < b_len ? -1 : 0;
+    for (j = i; a[j] >= 0x80 && b[j] >= 0x80;)
+        j++;
     return (a[j] ^ b[j]) >= 0x80 ? (a[j] >= 0x80 ? 1 : -1) : a[i] < b[i] ? -1 : 1;
 }
 
@@ -63,7 +75,9 @@ static uint32_t arcs[ROOM];
 #define A(known) known.arcs, known.count
 #define OBJECT(known) (at = der, (known).object = d2i_ASN1_OBJECT(NULL, &at, (long)der_len))
 #define PARSED(known) \
-    (left = der_len, (known).count = MAX_OID_LEN, asn_parse_objid((void *)der, &left, out, (known).arcs, &(known).count))
+    (left = der_len, (known).count = MAX_OID_LEN, \
+        asn_parse_objid((void *)der, &left, out, (known).arcs, &(known).count))
+/* clang-format off */
 /* A name, a call that is true, and then what it does, by whom, and what it checks. */
 #define CALLS(CALL) \
     CALL(from_der, !const_oid_from_der(der, der_len, &freed.octets).code) /* read DER, `const_oid_from_der`: element */ \
@@ -95,8 +109,13 @@ static uint32_t arcs[ROOM];
     CALL(items, const_oid_by_arcs(&one.octets, &other.octets)) /* order of arcs, `const_oid_by_arcs`: – */ \
     CALL(compare, snmp_oid_compare(A(one), A(other))) /* order of arcs, net-snmp: – */ \
     CALL(by_arcs, by_arcs(O(one), O(other))) /* order of arcs, by hand: – */
+#define AND(name, call) && call_##name()
+/* clang-format on */
 
-#define DEFINE(name, call) __attribute__((noinline)) static int call_##name(void) { return (call) != 0; }
+#define DEFINE(name, call) \
+    __attribute__((noinline)) static int call_##name(void) { \
+        return (call) != 0; \
+    }
 CALLS(DEFINE)
 
 /* Whether all calls are true. The sibling differs in its last octet. */
@@ -105,8 +124,8 @@ int octets_to_text(const uint8_t *element, size_t len, char *text) {
     for (int i = 0; i < 3; i++) {
         der = memcpy(all[i]->der, element, der_len = len);
         all[i]->der[len - 1] ^= i == 0;
-        if (const_oid_from_der(der, len, &all[i]->octets).code || !OBJECT(*all[i]) || !PARSED(*all[i])) return REJECTED;
+        if (const_oid_from_der(der, len, &all[i]->octets).code || !OBJECT(*all[i]) || !PARSED(*all[i]))
+            return REJECTED;
     }
-#define AND(name, call) && call_##name()
     return 1 CALLS(AND) ? 1 : REJECTED;
 }

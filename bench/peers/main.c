@@ -15,10 +15,12 @@ int main(void) {
     static uint8_t in[ROOM], out[ROOM];
     while (fgets(line, sizeof line, stdin)) {
         size_t len = 0;
-        while (sscanf(line + 2 * len, "%2hhx", &in[len]) == 1) in[++len] = 0;
+        while (sscanf(line + 2 * len, "%2hhx", &in[len]) == 1)
+            in[++len] = 0;
         int is_text = in[0] >= ' ' && in[0] <= '~' && in[0] != 0x26; /* the only tag in this range */
         int size = is_text ? text_to_octets((char *)in, len, out + 2) : octets_to_text(in, len, (char *)out + 2);
-        for (int i = 0; i < size; i++) printf("%02x", out[i + 2]);
+        for (int i = 0; i < size; i++)
+            printf("%02x", out[i + 2]);
         puts(size == NO_CALL ? "no call" : size < 0 ? "rejected" : "");
     }
 }

@@ -8,10 +8,18 @@
 #define BY_OCTETS(octets, len) (const_oid_name_of(octets, len) < CONST_OID_NAMES_COUNT)
 #endif
 
-__attribute__((noinline)) int lookup_name(const char *name) { return BY_NAME(name); }
+__attribute__((noinline)) int lookup_name(const char *name) {
+    return BY_NAME(name);
+}
 
-__attribute__((noinline)) int lookup_octets(const uint8_t *octets, size_t len) { return BY_OCTETS(octets, len); }
+__attribute__((noinline)) int lookup_octets(const uint8_t *octets, size_t len) {
+    return BY_OCTETS(octets, len);
+}
 
-int text_to_octets(const char *text, size_t len, uint8_t *out) { return lookup_name(text) ? 0 : REJECTED; }
+int text_to_octets(const char *text, size_t len, uint8_t *out) {
+    return lookup_name(text) ? 0 : REJECTED;
+}
 
-int octets_to_text(const uint8_t *der, size_t len, char *out) { return lookup_octets(der + 2, len - 2) ? 0 : REJECTED; }
+int octets_to_text(const uint8_t *der, size_t len, char *out) {
+    return lookup_octets(der + 2, len - 2) ? 0 : REJECTED;
+}

@@ -11,7 +11,8 @@ __attribute__((constructor)) static void start(void) {
 int text_to_octets(const char *text, size_t len, uint8_t *out) {
     oid arcs[MAX_OID_LEN];
     size_t count = MAX_OID_LEN, room = ROOM;
-    if (!snmp_parse_oid(text, arcs, &count)) return REJECTED;
+    if (!snmp_parse_oid(text, arcs, &count))
+        return REJECTED;
     u_char *end = asn_build_objid(out - 2, &room, ASN_OBJECT_ID, arcs, count);
     return end ? (int)(end - out) : REJECTED;
 }
@@ -20,6 +21,7 @@ int octets_to_text(const uint8_t *der, size_t len, char *out) { /* The text has 
     oid arcs[MAX_OID_LEN];
     size_t count = MAX_OID_LEN;
     u_char tag;
-    if (!asn_parse_objid((u_char *)der, &len, &tag, arcs, &count) || len > 0) return REJECTED;
+    if (!asn_parse_objid((u_char *)der, &len, &tag, arcs, &count) || len > 0)
+        return REJECTED;
     return snprint_objid(out - 1, ROOM - 2, arcs, count) - 1;
 }

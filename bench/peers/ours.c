@@ -9,7 +9,8 @@ int octets_to_text(const uint8_t *der, size_t len, char *out) {
     const_oid_octets contents = {der + 2, len - 2};
 #ifdef ELEMENTS
     const_oid_status read = const_oid_from_der(der, len, &contents);
-    if (read.code || read.len < len) return REJECTED;
+    if (read.code || read.len < len)
+        return REJECTED;
 #endif
     const_oid_status status = const_oid_to_text(contents.octets, contents.len, out, CONST_OID_MAX_TEXT);
     return status.code ? REJECTED : (int)status.len;

@@ -54,8 +54,7 @@ extern "C" {
 #define CONST_OID_VERSION_MAJOR 1
 #define CONST_OID_VERSION_MINOR 7
 #define CONST_OID_VERSION_PATCH 0
-#define CONST_OID_VERSION \
-    (65536 * CONST_OID_VERSION_MAJOR + 256 * CONST_OID_VERSION_MINOR + CONST_OID_VERSION_PATCH)
+#define CONST_OID_VERSION (65536 * CONST_OID_VERSION_MAJOR + 256 * CONST_OID_VERSION_MINOR + CONST_OID_VERSION_PATCH)
 
 /* No other array overlaps this output. */
 #if defined(__GNUC__) || defined(_MSC_VER)
@@ -193,13 +192,13 @@ CONST_OID_NODISCARD uint32_t const_oid_version(void);
  * NO_ELEMENT if there are no bytes, the tag is not 6, the length is indefinite or could be in fewer bytes, or not all
  * contents octets are there; or else that of the octets if they are invalid. So a loop over elements runs `while (len >
  * 0)`, and any code but OK is an error: one that runs while the code is OK takes a malformed element for the end. */
-CONST_OID_NODISCARD CONST_OID_READS(1, 2) CONST_OID_NONNULL(3) const_oid_status const_oid_from_der(
-    const uint8_t *der, size_t len, const_oid_octets *CONST_OID_RESTRICT contents);
+CONST_OID_NODISCARD CONST_OID_READS(1, 2) CONST_OID_NONNULL(3) const_oid_status
+    const_oid_from_der(const uint8_t *der, size_t len, const_oid_octets *CONST_OID_RESTRICT contents);
 
 /* Writes the element of DER for octets of any length: the tag 6, the length and the octets. An output that is ten
  * bytes longer than the octets is long enough. */
-CONST_OID_NODISCARD CONST_OID_READS(1, 2) CONST_OID_WRITES(3, 4) const_oid_status const_oid_to_der(
-    const uint8_t *octets, size_t len, uint8_t *CONST_OID_RESTRICT out, size_t out_len);
+CONST_OID_NODISCARD CONST_OID_READS(1, 2) CONST_OID_WRITES(3, 4) const_oid_status
+    const_oid_to_der(const uint8_t *octets, size_t len, uint8_t *CONST_OID_RESTRICT out, size_t out_len);
 
 /* Writes the contents octets of the identifier that dotted text denotes, such as "1.2.840". Arcs may have leading
  * zeros. The text may have any length. If it is invalid, returns NOT_UTF8 if it is not UTF-8, or else the code for the
@@ -213,8 +212,8 @@ CONST_OID_NODISCARD CONST_OID_READS(1, 2) CONST_OID_WRITES(3, 4) const_oid_statu
  * - EMPTY: it is the only one.
  *
  * There are no more octets than the text has bytes, so an output of as many is long enough. */
-CONST_OID_NODISCARD CONST_OID_READS(1, 2) CONST_OID_WRITES(3, 4) const_oid_status const_oid_from_text(
-    const char *text, size_t text_len, uint8_t *CONST_OID_RESTRICT out, size_t out_len);
+CONST_OID_NODISCARD CONST_OID_READS(1, 2) CONST_OID_WRITES(3, 4) const_oid_status
+    const_oid_from_text(const char *text, size_t text_len, uint8_t *CONST_OID_RESTRICT out, size_t out_len);
 
 /* Writes the contents octets for the arcs in octets and then those in a text, each after a dot: for 1.3.6 and ".1.4",
  * those of 1.3.6.1.4. For an empty text they are those that were given. Both may have any length. If the octets are
@@ -225,24 +224,24 @@ CONST_OID_NODISCARD CONST_OID_READS(1, 2) CONST_OID_WRITES(3, 4) const_oid_statu
  *
  * There are no more octets than those given and the bytes of the text, so an output of as many is long enough. */
 CONST_OID_NODISCARD CONST_OID_READS(1, 2) CONST_OID_READS(3, 4) CONST_OID_WRITES(5, 6) const_oid_status
-const_oid_from_text_below(const uint8_t *octets, size_t len, const char *text, size_t text_len,
-    uint8_t *CONST_OID_RESTRICT out, size_t out_len);
+    const_oid_from_text_below(const uint8_t *octets, size_t len, const char *text, size_t text_len,
+        uint8_t *CONST_OID_RESTRICT out, size_t out_len);
 
 /* Writes dotted text for octets of any length: the arcs in decimal, joined by dots. */
-CONST_OID_NODISCARD CONST_OID_READS(1, 2) CONST_OID_WRITES(3, 4) const_oid_status const_oid_to_text(
-    const uint8_t *octets, size_t len, char *CONST_OID_RESTRICT out, size_t out_len);
+CONST_OID_NODISCARD CONST_OID_READS(1, 2) CONST_OID_WRITES(3, 4) const_oid_status
+    const_oid_to_text(const uint8_t *octets, size_t len, char *CONST_OID_RESTRICT out, size_t out_len);
 
 /* Writes a dot and the decimal of each arc of an identifier after those of a prefix, such as ".3.0". Both may have any
  * length. The code is NONE if the identifier does not begin with the prefix. */
 CONST_OID_NODISCARD CONST_OID_READS(1, 2) CONST_OID_READS(3, 4) CONST_OID_WRITES(5, 6) const_oid_status
-const_oid_to_text_below(const uint8_t *octets, size_t len, const uint8_t *prefix, size_t prefix_len,
-    char *CONST_OID_RESTRICT out, size_t out_len);
+    const_oid_to_text_below(const uint8_t *octets, size_t len, const uint8_t *prefix, size_t prefix_len,
+        char *CONST_OID_RESTRICT out, size_t out_len);
 
 /* Finds what people type without the ASCII whitespace around it, and then without a prefix: a dot, OID. or urn:oid:, in
  * any case, or a module and ::, which is a letter, and then letters, digits and hyphens. Stores where it is in the
  * text, of any bytes, and returns its length. */
-CONST_OID_NODISCARD CONST_OID_READS(1, 2) CONST_OID_NONNULL(3) const_oid_status const_oid_bare_text(
-    const char *text, size_t text_len, const_oid_range *CONST_OID_RESTRICT range);
+CONST_OID_NODISCARD CONST_OID_READS(1, 2) CONST_OID_NONNULL(3) const_oid_status
+    const_oid_bare_text(const char *text, size_t text_len, const_oid_range *CONST_OID_RESTRICT range);
 
 /* Checks octets of any length. The code is 0 exactly if they encode an identifier. */
 CONST_OID_NODISCARD CONST_OID_READS(1, 2) const_oid_status const_oid_check(const uint8_t *octets, size_t len);
@@ -251,12 +250,12 @@ CONST_OID_NODISCARD CONST_OID_READS(1, 2) const_oid_status const_oid_check(const
 CONST_OID_NODISCARD CONST_OID_READS(1, 2) const_oid_status const_oid_len(const uint8_t *octets, size_t len);
 
 /* Finds the arc at an index, counted from 0, in octets of any length. The code is NONE if there is no such arc. */
-CONST_OID_NODISCARD CONST_OID_READS(1, 2) const_oid_status const_oid_arc(
-    const uint8_t *octets, size_t len, size_t index);
+CONST_OID_NODISCARD CONST_OID_READS(1, 2) const_oid_status
+    const_oid_arc(const uint8_t *octets, size_t len, size_t index);
 
 /* Writes all arcs in octets of any length, in order. `out_len` counts arcs. */
-CONST_OID_NODISCARD CONST_OID_READS(1, 2) CONST_OID_WRITES(3, 4) const_oid_status const_oid_arcs(
-    const uint8_t *octets, size_t len, uint32_t *CONST_OID_RESTRICT out, size_t out_len);
+CONST_OID_NODISCARD CONST_OID_READS(1, 2) CONST_OID_WRITES(3, 4) const_oid_status
+    const_oid_arcs(const uint8_t *octets, size_t len, uint32_t *CONST_OID_RESTRICT out, size_t out_len);
 
 /* Writes as many arcs as fit, in order, from the index `first` on. The octets may have any length. `len` is 0 past the
  * last arc; OUTPUT_TOO_SHORT is never the code. A loop over all arcs adds `len` to `first` until `len` is 0. */
@@ -265,13 +264,13 @@ CONST_OID_NODISCARD CONST_OID_READS(1, 2) CONST_OID_WRITES(4, 5) const_oid_statu
 
 /* Writes the contents octets for any number of arcs, at most five for each, so an output of as many is long enough. If
  * the arcs are invalid, returns ARC_INVALID with the first wrong one, or else EMPTY if there are fewer than two. */
-CONST_OID_NODISCARD CONST_OID_READS(1, 2) CONST_OID_WRITES(3, 4) const_oid_status const_oid_from_arcs(
-    const uint32_t *arcs, size_t len, uint8_t *CONST_OID_RESTRICT out, size_t out_len);
+CONST_OID_NODISCARD CONST_OID_READS(1, 2) CONST_OID_WRITES(3, 4) const_oid_status
+    const_oid_from_arcs(const uint32_t *arcs, size_t len, uint8_t *CONST_OID_RESTRICT out, size_t out_len);
 
 /* Writes the contents octets of the parent: all arcs except the last. They are a prefix of the octets, which may have
  * any length. The code is NONE if there are only two arcs. */
-CONST_OID_NODISCARD CONST_OID_READS(1, 2) CONST_OID_WRITES(3, 4) const_oid_status const_oid_parent(
-    const uint8_t *octets, size_t len, uint8_t *CONST_OID_RESTRICT out, size_t out_len);
+CONST_OID_NODISCARD CONST_OID_READS(1, 2) CONST_OID_WRITES(3, 4) const_oid_status
+    const_oid_parent(const uint8_t *octets, size_t len, uint8_t *CONST_OID_RESTRICT out, size_t out_len);
 
 /* Writes the contents octets of a child: all arcs, and one more. They are the octets, which may have any length, and
  * then at most five for the arc. */
@@ -283,20 +282,21 @@ CONST_OID_NODISCARD CONST_OID_READS(1, 2) CONST_OID_WRITES(4, 5) const_oid_statu
 #define CONST_OID_DIFFER __builtin_memcmp
 #else
 CONST_OID_INLINE int CONST_OID_DIFFER(const uint8_t *left, const uint8_t *right, size_t len) {
-    while (len > 0 && left[len - 1] == right[len - 1]) len--;
+    while (len > 0 && left[len - 1] == right[len - 1])
+        len--;
     return len > 0;
 }
 #endif
 
 /* Whether an identifier begins with all arcs of a prefix. Both may have any length. Code 0 says only that both are
  * valid: the answer is in `detail`. */
-CONST_OID_NODISCARD CONST_OID_READS(1, 2) CONST_OID_READS(3, 4) const_oid_status const_oid_starts_with(
-    const uint8_t *octets, size_t len, const uint8_t *prefix, size_t prefix_len);
+CONST_OID_NODISCARD CONST_OID_READS(1, 2) CONST_OID_READS(3, 4) const_oid_status
+    const_oid_starts_with(const uint8_t *octets, size_t len, const uint8_t *prefix, size_t prefix_len);
 
 /* Returns 1 if both are valid and the identifier begins with all arcs of the prefix, which may be all that it has, and
  * otherwise 0, also for invalid octets. It is no code: CONST_OID_OK is 0. */
-CONST_OID_NODISCARD CONST_OID_READS(1, 2) CONST_OID_READS(3, 4) CONST_OID_INLINE int const_oid_is_under(
-    const uint8_t *octets, size_t len, const uint8_t *prefix, size_t prefix_len) {
+CONST_OID_NODISCARD CONST_OID_READS(1, 2) CONST_OID_READS(3, 4) CONST_OID_INLINE
+    int const_oid_is_under(const uint8_t *octets, size_t len, const uint8_t *prefix, size_t prefix_len) {
     /* The first octets of valid ones are valid if a subidentifier ends there. */
     return len > 0 && prefix_len > 0 && prefix_len <= len && octets[prefix_len - 1] == prefix[prefix_len - 1]
         && prefix[prefix_len - 1] < 0x80 && !CONST_OID_DIFFER(octets, prefix, prefix_len)
@@ -304,30 +304,30 @@ CONST_OID_NODISCARD CONST_OID_READS(1, 2) CONST_OID_READS(3, 4) CONST_OID_INLINE
 }
 
 /* Whether two identifiers of any length are equal. Code 0 says only that both are valid: the answer is in `detail`. */
-CONST_OID_NODISCARD CONST_OID_READS(1, 2) CONST_OID_READS(3, 4) const_oid_status const_oid_eq(
-    const uint8_t *left, size_t left_len, const uint8_t *right, size_t right_len);
+CONST_OID_NODISCARD CONST_OID_READS(1, 2) CONST_OID_READS(3, 4) const_oid_status
+    const_oid_eq(const uint8_t *left, size_t left_len, const uint8_t *right, size_t right_len);
 
 /* Returns 1 if both are valid and equal, and otherwise 0, also for invalid octets. It is no code: CONST_OID_OK is 0. */
-CONST_OID_NODISCARD CONST_OID_READS(1, 2) CONST_OID_READS(3, 4) CONST_OID_INLINE int const_oid_is_equal(
-    const uint8_t *left, size_t left_len, const uint8_t *right, size_t right_len) {
+CONST_OID_NODISCARD CONST_OID_READS(1, 2) CONST_OID_READS(3, 4) CONST_OID_INLINE
+    int const_oid_is_equal(const uint8_t *left, size_t left_len, const uint8_t *right, size_t right_len) {
     return left_len > 0 && left_len == right_len && left[left_len - 1] == right[left_len - 1]
         && !CONST_OID_DIFFER(left, right, left_len) && const_oid_check(left, left_len).code == CONST_OID_OK;
 }
 
 /* Compares two identifiers of any length by their octets, as memcmp does. A prefix comes first. An identifier's
  * descendants follow it without a gap. This is not the order in SNMP. */
-CONST_OID_NODISCARD CONST_OID_READS(1, 2) CONST_OID_READS(3, 4) const_oid_status const_oid_cmp(
-    const uint8_t *left, size_t left_len, const uint8_t *right, size_t right_len);
+CONST_OID_NODISCARD CONST_OID_READS(1, 2) CONST_OID_READS(3, 4) const_oid_status
+    const_oid_cmp(const uint8_t *left, size_t left_len, const uint8_t *right, size_t right_len);
 
 /* Compares two identifiers of any length by their arcs, in lexicographic order. A prefix comes first. This is the order
  * in SNMP (RFC 3416) and in the sorted lists below. */
-CONST_OID_NODISCARD CONST_OID_READS(1, 2) CONST_OID_READS(3, 4) const_oid_status const_oid_cmp_arcs(
-    const uint8_t *left, size_t left_len, const uint8_t *right, size_t right_len);
+CONST_OID_NODISCARD CONST_OID_READS(1, 2) CONST_OID_READS(3, 4) const_oid_status
+    const_oid_cmp_arcs(const uint8_t *left, size_t left_len, const uint8_t *right, size_t right_len);
 
 /* Compares two identifiers of at most 255 octets by length, and then by their octets. This is the order in the Rust
  * crate const-oid, and not in SNMP. */
-CONST_OID_NODISCARD CONST_OID_READS(1, 2) CONST_OID_READS(3, 4) const_oid_status const_oid_cmp_owned(
-    const uint8_t *left, size_t left_len, const uint8_t *right, size_t right_len);
+CONST_OID_NODISCARD CONST_OID_READS(1, 2) CONST_OID_READS(3, 4) const_oid_status
+    const_oid_cmp_owned(const uint8_t *left, size_t left_len, const uint8_t *right, size_t right_len);
 
 /* Compares two items of a list, for qsort and bsearch. Each pointer is to a const_oid_octets. Returns -1 if the first
  * comes before the second, 0 if they are equal, and 1 if it comes after. For std::sort and std::map, compare by
@@ -337,15 +337,14 @@ CONST_OID_NODISCARD CONST_OID_READS(1, 2) CONST_OID_READS(3, 4) const_oid_status
  * octets are cut after each octet below 0x80, and the parts are compared in lexicographic order. A longer part is
  * greater. Parts of one length are compared by their octets. Only equal octets are equal. After sorting by this order,
  * const_oid_check_sorted accepts the list exactly if all items are valid. */
-CONST_OID_NODISCARD CONST_OID_NONNULL(1) CONST_OID_NONNULL(2) int const_oid_by_arcs(
-    const void *left, const void *right);
+CONST_OID_NODISCARD CONST_OID_NONNULL(1) CONST_OID_NONNULL(2) int const_oid_by_arcs(const void *one, const void *other);
 
 /* Checks a list, which is an array of identifiers, for the functions below. Each item must be valid, of any length, and
  * none may come before the previous one, in the order of const_oid_cmp_arcs. Items may be repeated. The code is 0
  * exactly if this holds. Otherwise it is that of the first wrong item, or UNSORTED if that comes before the previous
  * one, and `len` is its index: the items before it are such a list. The list is read up to that item. */
-CONST_OID_NODISCARD CONST_OID_READS(1, 2) const_oid_status const_oid_check_sorted(
-    const const_oid_octets *items, size_t count);
+CONST_OID_NODISCARD CONST_OID_READS(1, 2) const_oid_status
+    const_oid_check_sorted(const const_oid_octets *items, size_t count);
 
 /* The functions below do a binary search in a list that const_oid_check_sorted accepts. They check the identifier,
  * which may have any length, and return its code if it is invalid. They do not check the list. In another list, what
@@ -354,31 +353,31 @@ CONST_OID_NODISCARD CONST_OID_READS(1, 2) const_oid_status const_oid_check_sorte
  * index of no item. The code is NONE if there is no such item. */
 
 /* Finds the first item that is equal to an identifier. */
-CONST_OID_NODISCARD CONST_OID_READS(1, 2) CONST_OID_READS(3, 4) const_oid_status const_oid_find(
-    const uint8_t *octets, size_t len, const const_oid_octets *sorted, size_t count);
+CONST_OID_NODISCARD CONST_OID_READS(1, 2) CONST_OID_READS(3, 4) const_oid_status
+    const_oid_find(const uint8_t *octets, size_t len, const const_oid_octets *sorted, size_t count);
 
 /* Finds the first item that comes after an identifier, which need not be an item: what SNMP's GetNext returns. */
-CONST_OID_NODISCARD CONST_OID_READS(1, 2) CONST_OID_READS(3, 4) const_oid_status const_oid_next(
-    const uint8_t *octets, size_t len, const const_oid_octets *sorted, size_t count);
+CONST_OID_NODISCARD CONST_OID_READS(1, 2) CONST_OID_READS(3, 4) const_oid_status
+    const_oid_next(const uint8_t *octets, size_t len, const const_oid_octets *sorted, size_t count);
 
 /* Finds the nearest item to an identifier: the first item that is equal to it, or else to its longest prefix in the
  * list. If the item has `k` arcs, as const_oid_len says, const_oid_arcs_from(octets, len, k, ..) writes the arcs after
  * them. */
-CONST_OID_NODISCARD CONST_OID_READS(1, 2) CONST_OID_READS(3, 4) const_oid_status const_oid_nearest(
-    const uint8_t *octets, size_t len, const const_oid_octets *sorted, size_t count);
+CONST_OID_NODISCARD CONST_OID_READS(1, 2) CONST_OID_READS(3, 4) const_oid_status
+    const_oid_nearest(const uint8_t *octets, size_t len, const const_oid_octets *sorted, size_t count);
 
 /* Finds the items that begin with all arcs of an identifier, itself included, and stores where they are in `range`.
  * `start` is where it would be inserted, also if there are none: then `end` is the same. With OK, `len` is 0. */
-CONST_OID_NODISCARD CONST_OID_READS(1, 2) CONST_OID_READS(3, 4) CONST_OID_NONNULL(5)
-const_oid_status const_oid_subtree_range(const uint8_t *octets, size_t len, const const_oid_octets *sorted,
-    size_t count, const_oid_range *CONST_OID_RESTRICT range);
+CONST_OID_NODISCARD CONST_OID_READS(1, 2) CONST_OID_READS(3, 4) CONST_OID_NONNULL(5) const_oid_status
+    const_oid_subtree_range(const uint8_t *octets, size_t len, const const_oid_octets *sorted, size_t count,
+        const_oid_range *CONST_OID_RESTRICT range);
 
 /* Writes the text for a code and its detail, in UTF-8. With DIGIT_EXPECTED, the byte stands in it as the character with
  * that number, even if this is a zero byte, a newline or another control character. All other characters are printable
  * ASCII. The text for EMPTY, "OID value is empty", is also that for one arc alone. The code is NONE if there is no such
  * text: for OK, for an unknown code, and for DIGIT_EXPECTED with a detail above 255. */
-CONST_OID_NODISCARD CONST_OID_WRITES(3, 4) const_oid_status const_oid_error_text(
-    uint32_t code, uint32_t detail, char *CONST_OID_RESTRICT out, size_t out_len);
+CONST_OID_NODISCARD CONST_OID_WRITES(3, 4) const_oid_status
+    const_oid_error_text(uint32_t code, uint32_t detail, char *CONST_OID_RESTRICT out, size_t out_len);
 
 #ifdef __cplusplus
 }

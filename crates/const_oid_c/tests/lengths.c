@@ -23,8 +23,13 @@ typedef struct {
 static const uint32_t right_arcs[] = {1, 2}, wrong_arcs[] = {1, 40};
 static const const_oid_octets right_list[] = {{OID}}, null_list[] = {{NULL, 3}};
 static uint32_t output[64];
-static const array right[] = {[OCTETS] = {OID}, [DER] = {"\6\3\x2A\3\4", 5}, [TEXT] = {"1.2", 3}, [BELOW] = {".1.2", 4},
-    [ARCS] = {right_arcs, 2}, [LIST] = {right_list, 1}, [OUTPUT] = {output, 64}};
+static const array right[] = {[OCTETS] = {OID},
+    [DER] = {"\6\3\x2A\3\4", 5},
+    [TEXT] = {"1.2", 3},
+    [BELOW] = {".1.2", 4},
+    [ARCS] = {right_arcs, 2},
+    [LIST] = {right_list, 1},
+    [OUTPUT] = {output, 64}};
 
 /* How many items are right in an array with a wrong one, these, and the code for it. Of DER they are contents octets. An
  * output is right. */
@@ -32,9 +37,12 @@ static const struct {
     size_t count, size;
     const void *items;
     uint32_t code;
-} wrong[] = {[OCTETS] = {3, 1, "\x2A\3\4\x80", CONST_OID_BASE128}, [DER] = {3, 1, "\x2A\3\4\x80", CONST_OID_BASE128},
-    [TEXT] = {3, 1, "1.2\xFF", CONST_OID_NOT_UTF8}, [BELOW] = {4, 1, ".1.2\xFF", CONST_OID_NOT_UTF8},
-    [ARCS] = {1, 4, wrong_arcs, CONST_OID_ARC_INVALID}, [OUTPUT] = {0, 0, NULL, CONST_OID_OK}};
+} wrong[] = {[OCTETS] = {3, 1, "\x2A\3\4\x80", CONST_OID_BASE128},
+    [DER] = {3, 1, "\x2A\3\4\x80", CONST_OID_BASE128},
+    [TEXT] = {3, 1, "1.2\xFF", CONST_OID_NOT_UTF8},
+    [BELOW] = {4, 1, ".1.2\xFF", CONST_OID_NOT_UTF8},
+    [ARCS] = {1, 4, wrong_arcs, CONST_OID_ARC_INVALID},
+    [OUTPUT] = {0, 0, NULL, CONST_OID_OK}};
 
 /* The function that is called, the index of the argument that varies, and its kind, if there is one. */
 static const char *called;
@@ -48,17 +56,21 @@ static size_t cut;
 static uint8_t *memory;
 
 static void must(int fact) {
-    if (!fact) fprintf(stderr, "tests: %s: argument %d, length %zu\n", called, varied_at, cut);
-    if (!fact) exit(1);
+    if (!fact)
+        fprintf(stderr, "tests: %s: argument %d, length %zu\n", called, varied_at, cut);
+    if (!fact)
+        exit(1);
 }
 
 /* Writes the tag and the length of an element of DER. How many octets they are. */
 static size_t write_head(uint64_t len) {
     int count = 1;
-    while (len >> 8 * count > 0) count++;
+    while (len >> 8 * count > 0)
+        count++;
     memory[0] = 6;
     memory[1] = (uint8_t)(0x80 + count);
-    for (int i = 0; i < count; i++) memory[2 + i] = (uint8_t)(len >> 8 * (count - 1 - i));
+    for (int i = 0; i < count; i++)
+        memory[2 + i] = (uint8_t)(len >> 8 * (count - 1 - i));
     return 2 + (size_t)count;
 }
 
@@ -73,10 +85,13 @@ static array wrong_array(enum kind kind) {
 /* An argument. A second identifier has an arc less. Long lists are apart. */
 static array given(enum kind kind, int index) {
     array of = right[kind];
-    if (kind == OCTETS) of.len -= (size_t)index;
-    if (index != varied_at || (kind == LIST && !is_null)) return of;
+    if (kind == OCTETS)
+        of.len -= (size_t)index;
+    if (index != varied_at || (kind == LIST && !is_null))
+        return of;
     varied = kind;
-    if (is_null) return is_null_item && kind == LIST ? (array){null_list, 1} : (array){NULL, of.len};
+    if (is_null)
+        return is_null_item && kind == LIST ? (array){null_list, 1} : (array){NULL, of.len};
     return kind == OUTPUT ? (array){memory, cut + 1} : wrong_array(kind);
 }
 
@@ -85,17 +100,21 @@ static int begins(const char *name) {
     int ended = 0;
     called = name;
     varied = NOTHING;
-    if (!is_null) return 1;
+    if (!is_null)
+        return 1;
     const pid_t child = fork();
-    if (child == 0) setrlimit(RLIMIT_CORE, &(struct rlimit){0, 0});
-    if (child == 0) return 1;
+    if (child == 0)
+        setrlimit(RLIMIT_CORE, &(struct rlimit){0, 0});
+    if (child == 0)
+        return 1;
     must(child > 0 && waitpid(child, &ended, 0) == child && ended != 1 << 8);
     return 0;
 }
 
 /* A wrong item is found past the length of fewer bits, a long output is long enough, and no null is accepted. */
 static void see_status(const_oid_status status) {
-    if (is_null) _exit(varied != NOTHING);
+    if (is_null)
+        _exit(varied != NOTHING);
     const int is_bare = status.code == CONST_OID_OK && status.len == cut + wrong[TEXT].count;
     must(varied == NOTHING || status.code == wrong[varied].code || (varied == TEXT && is_bare));
 }
@@ -112,7 +131,8 @@ static void call(void) {
 #define VALUE_ITEM_OUT &item
 #define CALL(result, name, ...) CALL_##result(name, __VA_ARGS__)
 #define CALL_const_oid_status(name, ...) \
-    if (begins(#name)) see_status(name(__VA_ARGS__));
+    if (begins(#name)) \
+        see_status(name(__VA_ARGS__));
 #define CALL_int(name, ...)
 #define CALL_uint32_t(name, ...)
 #include "calls.h"
@@ -120,7 +140,8 @@ static void call(void) {
 
 /* What has no status, or takes an item: octets that are longer than others, and begin with them. */
 static void see_long_octets(void) {
-    const const_oid_octets item = {memory, cut + 3}, list[] = {{(const uint8_t *)"", 1}, item, {(const uint8_t *)"U", 1}};
+    const const_oid_octets item = {memory, cut + 3},
+                           list[] = {{(const uint8_t *)"", 1}, item, {(const uint8_t *)"U", 1}};
     memcpy(memory, "\x2A\3\4\x80", 4);
     SEE(!const_oid_is_equal(memory, cut + 3, OID) && !const_oid_is_equal(OID, memory, cut + 3), cut);
     SEE(!const_oid_is_under(memory, cut + 3, OID) && !const_oid_is_under(OID, memory, cut + 3), cut);
@@ -129,7 +150,8 @@ static void see_long_octets(void) {
     const const_oid_status checked = const_oid_check_sorted(list, 3);
     SEE(checked.code == CONST_OID_BASE128 && checked.len == 1, cut);
     memory[3] = 0;
-    if (cut < 1 << 24) SEE(const_oid_len(memory, cut + 3).len == cut + 4, cut);
+    if (cut < 1 << 24)
+        SEE(const_oid_len(memory, cut + 3).len == cut + 4, cut);
     SEE(const_oid_find(OID, list, 3).code == CONST_OID_NONE && const_oid_next(OID, list, 3).len == 1, cut);
     SEE(const_oid_nearest(OID, list, 3).code == CONST_OID_NONE, cut);
     SEE(const_oid_arcs_from(OID, 0, (void *)memory, cut + 1).len == 4, cut);
@@ -146,7 +168,8 @@ static void see_indices(void) {
 
 /* Memory that is mapped and not written. Null if there is none. */
 static void *map(uint64_t bytes) {
-    if (bytes > SIZE_MAX / 2) return NULL;
+    if (bytes > SIZE_MAX / 2)
+        return NULL;
     void *start = mmap(NULL, (size_t)bytes, PROT_READ | PROT_WRITE, MAP_PRIVATE | MAP_ANONYMOUS | MAP_NORESERVE, -1, 0);
     return start == MAP_FAILED ? NULL : start;
 }
@@ -173,7 +196,8 @@ static const_oid_octets *map_equal_items(uint64_t count) {
         SEE(mmap(to, CHUNK, PROT_READ | PROT_WRITE, MAP_SHARED | MAP_FIXED, file, 0) == to, (size_t)at);
     }
     const_oid_octets *items = (void *)start;
-    for (size_t i = 0; i < ITEMS; i++) items[i] = (const_oid_octets){(const uint8_t *)"\x2A", 1};
+    for (size_t i = 0; i < ITEMS; i++)
+        items[i] = (const_oid_octets){(const uint8_t *)"\x2A", 1};
     items[count] = right_list[0];
     return items;
 }
@@ -192,12 +216,15 @@ static void see_searches(void) {
 static int see_lengths(int bits) {
     const uint64_t bytes = (UINT64_C(1) << bits) * sizeof(uint32_t) + 64;
     memory = map(bytes);
-    if (memory == NULL) return 0;
+    if (memory == NULL)
+        return 0;
     cut = (size_t)1 << bits;
-    for (varied_at = 0; varied_at < 3; varied_at++) call();
+    for (varied_at = 0; varied_at < 3; varied_at++)
+        call();
     see_long_octets();
     see_long_list();
-    if (bits == 32) see_searches();
+    if (bits == 32)
+        see_searches();
     munmap(memory, (size_t)bytes);
     return 1;
 }
@@ -207,12 +234,14 @@ int main(void) {
     SEE(const_oid_version() == CONST_OID_VERSION, const_oid_version());
     for (is_null_item = 0; is_null_item < 2; is_null_item++) {
         is_null = 1;
-        for (varied_at = 0; varied_at < 3; varied_at++) call();
+        for (varied_at = 0; varied_at < 3; varied_at++)
+            call();
     }
     is_null = 0;
     see_indices();
     for (size_t i = 0; i < sizeof bits / sizeof *bits; i++) {
-        if (!see_lengths(bits[i])) fprintf(stderr, "tests: no length past 2^%d, since no more is mapped\n", bits[i]);
+        if (!see_lengths(bits[i]))
+            fprintf(stderr, "tests: no length past 2^%d, since no more is mapped\n", bits[i]);
     }
     return 0;
 }

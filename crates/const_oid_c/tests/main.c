@@ -29,11 +29,13 @@ static void expand(const char *row) {
     for (;;) {
         size_t len = strcspn(row, "{");
         say("%.*s", (int)len, row);
-        if (row[len] == 0) return;
+        if (row[len] == 0)
+            return;
         const char *unit = row + len + 1;
         char *end = NULL;
         len = strcspn(unit, "*");
-        for (size_t count = strtoul(unit + len + 1, &end, 10); count > 0; count--) say("%.*s", (int)len, unit);
+        for (size_t count = strtoul(unit + len + 1, &end, 10); count > 0; count--)
+            say("%.*s", (int)len, unit);
         SEE(*end == '}', line);
         row = end + 1;
     }
@@ -118,36 +120,47 @@ static const_oid_status to_error(void *to, size_t room) {
 
 /* Whether there is a result. If not, says why. */
 static int is_ok(const_oid_status status) {
-    static const char *const others[] = {[CONST_OID_NOT_UTF8] = "no text", [CONST_OID_NONE] = "none",
-        [CONST_OID_UNSORTED] = "unsorted", [CONST_OID_NO_ELEMENT] = "no element"};
-    if (status.code == CONST_OID_OK) return 1;
+    static const char *const others[] = {[CONST_OID_NOT_UTF8] = "no text",
+        [CONST_OID_NONE] = "none",
+        [CONST_OID_UNSORTED] = "unsorted",
+        [CONST_OID_NO_ELEMENT] = "no element"};
+    if (status.code == CONST_OID_OK)
+        return 1;
     /* The crate has one error for an output that is too short and for too many octets. */
-    if (status.code == CONST_OID_OUTPUT_TOO_SHORT) status.code = CONST_OID_LENGTH;
+    if (status.code == CONST_OID_OUTPUT_TOO_SHORT)
+        status.code = CONST_OID_LENGTH;
     char error[CONST_OID_MAX_ERROR_TEXT];
     const_oid_status made = const_oid_error_text(status.code, status.detail, error, sizeof error);
     SEE(made.code == CONST_OID_OK, line);
-    if (status.code >= CONST_OID_NOT_UTF8) say("%s", others[status.code]);
-    else say("error: %.*s", (int)made.len, error);
+    if (status.code >= CONST_OID_NOT_UTF8)
+        say("%s", others[status.code]);
+    else
+        say("error: %.*s", (int)made.len, error);
     return 0;
 }
 
 static void say_hex(const_oid_octets of) {
-    for (size_t i = 0; i < of.len; i++) say("%02X", of.octets[i]);
+    for (size_t i = 0; i < of.len; i++)
+        say("%02X", of.octets[i]);
 }
 
 static void say_octets(const_oid_status status) {
-    if (is_ok(status)) say_hex((const_oid_octets){out, status.len});
+    if (is_ok(status))
+        say_hex((const_oid_octets){out, status.len});
 }
 
 static void say_text(const_oid_status status) {
-    if (is_ok(status)) say("%.*s", (int)status.len, (const char *)out);
+    if (is_ok(status))
+        say("%.*s", (int)status.len, (const char *)out);
 }
 
 static void say_arcs(const_oid_status status) {
     const uint32_t *written = (void *)out;
-    if (!is_ok(status)) return;
+    if (!is_ok(status))
+        return;
     say("%zu arcs", status.len);
-    for (size_t i = 0; i < status.len; i++) say(" %" PRIu32, written[i]);
+    for (size_t i = 0; i < status.len; i++)
+        say(" %" PRIu32, written[i]);
 }
 
 /* The call wrote the first octets of the row again. */
@@ -169,11 +182,13 @@ static void octets_row(void) {
     const const_oid_status checked = const_oid_check(OCTETS(0)), counted = const_oid_len(OCTETS(0));
     const const_oid_status printed = in_rooms(to_text, 1);
     say_text(printed);
-    if (printed.code == CONST_OID_OK) set_text(out, printed.len);
+    if (printed.code == CONST_OID_OK)
+        set_text(out, printed.len);
     const const_oid_status all = in_rooms(to_arcs, sizeof *arcs);
     SEE(checked.code == printed.code && counted.code == printed.code && all.code == printed.code, line);
     SEE(checked.len == 0 && counted.len == all.len, line);
-    if (printed.code != CONST_OID_OK) return;
+    if (printed.code != CONST_OID_OK)
+        return;
     say(", ");
     say_arcs(all);
     set_arcs(out, all.len);
@@ -221,8 +236,10 @@ static void component_row(const char *rest) {
 
 static void sorted_row(void) {
     const const_oid_status status = const_oid_check_sorted(at_end(LIST, items, count * sizeof *items), count);
-    if (is_ok(status)) say("sorted");
-    else say(" at %zu", status.len);
+    if (is_ok(status))
+        say("sorted");
+    else
+        say(" at %zu", status.len);
 }
 
 /* Says what each search finds for an identifier, or its error. */
@@ -237,12 +254,15 @@ static void list_row(void) {
     SEE(last.code == CONST_OID_OK || (range.start == count && range.end == count), line);
     for (size_t i = 0; i < 3; i++) {
         SEE(found[i].code == CONST_OID_OK || found[i].len == count - 1, line);
-        if (last.code != CONST_OID_OK && found[i].code == last.code && found[i].detail == last.detail) continue;
+        if (last.code != CONST_OID_OK && found[i].code == last.code && found[i].detail == last.detail)
+            continue;
         say("%s ", names[i]);
-        if (!is_ok(found[i])) say(" of ");
+        if (!is_ok(found[i]))
+            say(" of ");
         say("%zu, ", found[i].len);
     }
-    if (is_ok(last)) say("range %zu %zu", range.start, range.end);
+    if (is_ok(last))
+        say("range %zu %zu", range.start, range.end);
 }
 
 typedef const_oid_status comparison(const uint8_t *, size_t, const uint8_t *, size_t);
@@ -259,7 +279,8 @@ static const char *const orders[] = {"no order", "less", "equal", "greater"};
 static void pair_row(comparison *compared_by, const char *const *words) {
     const const_oid_status status = compared_by(OCTETS(0), OCTETS(1));
     SEE(status.len == 0, line);
-    if (is_ok(status)) say("%s", words[status.detail]);
+    if (is_ok(status))
+        say("%s", words[status.detail]);
 }
 
 static void equal_row(void) {
@@ -297,7 +318,8 @@ static void order_row(comparison *compared_by) {
 
 /* Whether a row asks tables of names that are not here. */
 static int is_left(const char *call) {
-    if (IS("names")) return 1;
+    if (IS("names"))
+        return 1;
 #ifdef COMMON
     return 0;
 #else
@@ -325,7 +347,8 @@ static const_oid_status parse(void *to, size_t room) {
 static void display_row(void) {
     static char shown[4 * MOST];
     const const_oid_status status = const_oid_display(OCTETS(0), shown, sizeof shown);
-    if (is_ok(status)) say("%s", shown);
+    if (is_ok(status))
+        say("%s", shown);
 }
 
 /* Says the octets of a name and the name of octets. */
@@ -340,7 +363,8 @@ static void nearest_row(void) {
     const const_oid_status second = const_oid_nearest(OCTETS(0), common, CONST_OID_COMMON_NAMES_COUNT);
     const const_oid_octets a = const_oid_name_octets[first.len], b = const_oid_common_octets(second.len);
     const int is_second = a.len < b.len;
-    if (!is_ok(is_second ? second : first)) return;
+    if (!is_ok(is_second ? second : first))
+        return;
     say_hex(is_second ? b : a);
     say(" %s", is_second ? const_oid_common_name(second.len) : const_oid_names[first.len]);
 }
@@ -350,44 +374,74 @@ static void answer(const char *call, const char *rest) {
     set_arcs(numbers, count);
     const char *second = rest + strcspn(rest, " ");
     second += *second == ' ';
-    if (IS("text")) text_row(rest, strlen(rest));
-    else if (IS("text_in")) read_row(from_text, second, strlen(second), numbers[0]);
-    else if (IS("component")) component_row(rest);
-    else if (IS("bytes")) text_row(OCTETS(0));
-    else if (IS("octets")) octets_row();
-    else if (IS("element")) element_row();
-    else if (IS("arcs")) say_octets(in_rooms(from_arcs, 1));
-    else if (IS("arcs_in")) say_octets(in_room(from_later_arcs, numbers[0], 1));
-    else if (IS("arcs_from")) say_arcs(in_room(to_arcs_from, numbers[2], sizeof *arcs));
-    else if (IS("parent")) say_octets(in_rooms(to_parent, 1));
-    else if (IS("child")) say_octets(in_rooms(to_child, 1));
-    else if (IS("sorted")) sorted_row();
-    else if (IS("list")) list_row();
-    else if (IS("error")) say_text(in_rooms(to_error, 1));
-    else if (IS("begins")) begins_row();
-    else if (IS("equal")) equal_row();
-    else if (IS("owned")) pair_row(const_oid_cmp_owned, orders);
-    else if (IS("borrowed")) pair_row(const_oid_cmp, orders);
-    else if (IS("by_arcs")) pair_row(const_oid_cmp_arcs, orders);
-    else if (IS("items_order")) order_row(by_arcs);
-    else if (IS("owned_order")) order_row(const_oid_cmp_owned);
-    else if (IS("borrowed_order")) order_row(const_oid_cmp);
-    else if (IS("by_arcs_order")) order_row(const_oid_cmp_arcs);
+    if (IS("text"))
+        text_row(rest, strlen(rest));
+    else if (IS("text_in"))
+        read_row(from_text, second, strlen(second), numbers[0]);
+    else if (IS("component"))
+        component_row(rest);
+    else if (IS("bytes"))
+        text_row(OCTETS(0));
+    else if (IS("octets"))
+        octets_row();
+    else if (IS("element"))
+        element_row();
+    else if (IS("arcs"))
+        say_octets(in_rooms(from_arcs, 1));
+    else if (IS("arcs_in"))
+        say_octets(in_room(from_later_arcs, numbers[0], 1));
+    else if (IS("arcs_from"))
+        say_arcs(in_room(to_arcs_from, numbers[2], sizeof *arcs));
+    else if (IS("parent"))
+        say_octets(in_rooms(to_parent, 1));
+    else if (IS("child"))
+        say_octets(in_rooms(to_child, 1));
+    else if (IS("sorted"))
+        sorted_row();
+    else if (IS("list"))
+        list_row();
+    else if (IS("error"))
+        say_text(in_rooms(to_error, 1));
+    else if (IS("begins"))
+        begins_row();
+    else if (IS("equal"))
+        equal_row();
+    else if (IS("owned"))
+        pair_row(const_oid_cmp_owned, orders);
+    else if (IS("borrowed"))
+        pair_row(const_oid_cmp, orders);
+    else if (IS("by_arcs"))
+        pair_row(const_oid_cmp_arcs, orders);
+    else if (IS("items_order"))
+        order_row(by_arcs);
+    else if (IS("owned_order"))
+        order_row(const_oid_cmp_owned);
+    else if (IS("borrowed_order"))
+        order_row(const_oid_cmp);
+    else if (IS("by_arcs_order"))
+        order_row(const_oid_cmp_arcs);
 #ifdef COMMON
-    else if (IS("parse")) read_row(parse, second, strlen(second), numbers[0]);
-    else if (IS("parse_bytes")) read_row(parse, OCTETS(1), numbers[0]);
-    else if (IS("display")) display_row();
-    else if (IS("nearest")) nearest_row();
-    else if (IS("entry")) entry_row(strchr(second, ' ') + 1);
+    else if (IS("parse"))
+        read_row(parse, second, strlen(second), numbers[0]);
+    else if (IS("parse_bytes"))
+        read_row(parse, OCTETS(1), numbers[0]);
+    else if (IS("display"))
+        display_row();
+    else if (IS("nearest"))
+        nearest_row();
+    else if (IS("entry"))
+        entry_row(strchr(second, ' ') + 1);
 #endif
-    else say("no such call");
+    else
+        say("no such call");
 }
 
 int main(void) {
     static char read[LINE], row[LINE];
     size_t rows = 0, wrong = 0;
 #ifdef COMMON
-    for (size_t i = 0; i < CONST_OID_COMMON_NAMES_COUNT; i++) common[i] = const_oid_common_octets(i);
+    for (size_t i = 0; i < CONST_OID_COMMON_NAMES_COUNT; i++)
+        common[i] = const_oid_common_octets(i);
 #endif
     while (fgets(read, sizeof read, stdin) != NULL) {
         line++;
@@ -396,21 +450,27 @@ int main(void) {
         expand(read);
         memcpy(row, said, said_len + 1);
         char *wanted = strstr(row, " = ");
-        if (row[0] == '#' || wanted == NULL) continue;
+        if (row[0] == '#' || wanted == NULL)
+            continue;
         rows++;
         *wanted = 0;
         wanted += 3;
         /* The library does not say how long an element of wrong octets is. */
-        if (strstr(wanted, " bytes, error") != NULL) wanted = strstr(wanted, "error");
+        if (strstr(wanted, " bytes, error") != NULL)
+            wanted = strstr(wanted, "error");
         char *rest = row + strcspn(row, " ");
-        if (*rest == ' ') *rest++ = 0;
-        if (is_left(row)) continue;
+        if (*rest == ' ')
+            *rest++ = 0;
+        if (is_left(row))
+            continue;
         said_len = 0;
         is_wrong = 0;
         read_words(rest);
         answer(row, rest);
-        if (said_len == strlen(wanted) && memcmp(said, wanted, said_len) == 0) continue;
-        if (is_wrong && strcmp(wanted, "error: OID length invalid") == 0 && strncmp(said, "error", 5) == 0) continue;
+        if (said_len == strlen(wanted) && memcmp(said, wanted, said_len) == 0)
+            continue;
+        if (is_wrong && strcmp(wanted, "error: OID length invalid") == 0 && strncmp(said, "error", 5) == 0)
+            continue;
         wrong++;
         printf("line %zu: %s, and not %.*s\n", line, read, (int)said_len, said);
     }

@@ -31,14 +31,18 @@ static void find_each(const std::vector<const_oid_octets> &items) {
 }
 
 // The lengths of those of 50 constants, with 1 to 50 octets, that octets are.
-#define IS(constant) if (CONST_OID_IS(octets.data(), octets.size(), constant)) lens.push_back(sizeof(constant) - 1);
-#define TEN(first) IS(first "\x2A") IS(first "\x2A\0") IS(first "\x2A\0\3") IS(first "\x2A\0\3\x7F") \
-    IS(first "\x2A\0\3\x7F\5") IS(first "\x2A\0\3\x7F\5\1") IS(first "\x2A\0\3\x7F\5\1\0") \
-    IS(first "\x2A\0\3\x7F\5\1\0\2") IS(first "\x2A\0\3\x7F\5\1\0\2\6") IS(first ALL)
+#define IS(constant) CONST_OID_IS(octets.data(), octets.size(), constant)
+#define TEN(first) \
+    IS(first "\x2A"), IS(first "\x2A\0"), IS(first "\x2A\0\3"), IS(first "\x2A\0\3\x7F"), IS(first "\x2A\0\3\x7F\5"), \
+        IS(first "\x2A\0\3\x7F\5\1"), IS(first "\x2A\0\3\x7F\5\1\0"), IS(first "\x2A\0\3\x7F\5\1\0\2"), \
+        IS(first "\x2A\0\3\x7F\5\1\0\2\6"), IS(first ALL)
 #define ALL "\x2A\0\3\x7F\5\1\0\2\6\7"
 static std::vector<size_t> constants_of(const std::vector<uint8_t> &octets) {
+    const int are[] = {TEN(""), TEN(ALL), TEN(ALL ALL), TEN(ALL ALL ALL), TEN(ALL ALL ALL ALL)};
     std::vector<size_t> lens;
-    TEN("") TEN(ALL) TEN(ALL ALL) TEN(ALL ALL ALL) TEN(ALL ALL ALL ALL)
+    for (size_t i = 0; i < 50; i++)
+        if (are[i])
+            lens.push_back(i + 1);
     return lens;
 }
 
@@ -55,6 +59,10 @@ static void compare_with_constants(size_t len) {
         }
 }
 
+static bool is_invalid(const const_oid_octets &item) {
+    return const_oid_check(item.octets, item.len).code != CONST_OID_OK;
+}
+
 // Sorts 3,000 items, a third of them invalid. Then the invalid ones are removed, and the others are a list.
 int main() {
     std::vector<std::vector<uint8_t>> all;
@@ -62,16 +70,18 @@ int main() {
     for (unsigned i = 0; i < 3000; i++) {
         const unsigned number = i * 607 % 3000;
         all.push_back({0x2B, static_cast<uint8_t>(0x81 + number / 128), static_cast<uint8_t>(number % 128), 0x05});
-        if (i % 3 == 0) all[i].pop_back(), all[i][2] = static_cast<uint8_t>(0x80 + number % 128);
+        if (i % 3 == 0)
+            all[i] = {0x2B, all[i][1], static_cast<uint8_t>(0x80 + number % 128)};
         items.push_back({all[i].data(), all[i].size()});
     }
     std::sort(items.begin(), items.end(), comes_before);
     SEE(std::is_sorted(items.begin(), items.end(), comes_before), 0);
-    for (size_t i = 1; i < items.size(); i++) SEE(comes_before(items[i - 1], items[i]), i);
-    items.erase(std::remove_if(items.begin(), items.end(), [](const const_oid_octets &item) {
-        return const_oid_check(item.octets, item.len).code != CONST_OID_OK; }), items.end());
+    for (size_t i = 1; i < items.size(); i++)
+        SEE(comes_before(items[i - 1], items[i]), i);
+    items.erase(std::remove_if(items.begin(), items.end(), is_invalid), items.end());
     SEE(items.size() == 2000, items.size());
     SEE(const_oid_check_sorted(items.data(), items.size()).code == CONST_OID_OK, 0);
     find_each(items);
-    for (size_t len = 0; len <= 50; len++) compare_with_constants(len);
+    for (size_t len = 0; len <= 50; len++)
+        compare_with_constants(len);
 }

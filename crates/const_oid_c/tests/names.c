@@ -30,8 +30,10 @@
 static void find_in_both(const char *text) {
     const_oid_octets found = const_oid_from_name(text), wanted = {NULL, 0};
     size_t first = const_oid_by_name(text), second = const_oid_common_by_name(text);
-    if (second < CONST_OID_COMMON_NAMES_COUNT) wanted = const_oid_common_octets(second);
-    if (first < CONST_OID_NAMES_COUNT) wanted = const_oid_name_octets[first];
+    if (second < CONST_OID_COMMON_NAMES_COUNT)
+        wanted = const_oid_common_octets(second);
+    if (first < CONST_OID_NAMES_COUNT)
+        wanted = const_oid_name_octets[first];
     SEE(found.octets == wanted.octets && found.len == wanted.len, first);
 }
 
@@ -67,7 +69,8 @@ static size_t constants_of(const uint8_t *octets, size_t len) {
 static size_t named(const char *name) {
     size_t first = count;
     for (size_t i = 0; i < count; i++) {
-        if (strcasecmp(rows[i].name, name) == 0 && (first == count || rows[i].place < rows[first].place)) first = i;
+        if (strcasecmp(rows[i].name, name) == 0 && (first == count || rows[i].place < rows[first].place))
+            first = i;
     }
     return first;
 }
@@ -84,9 +87,11 @@ static void find_like(size_t index) {
     size_t len = strlen(rows[index].name);
     memcpy(text, rows[index].name, len);
     find(text, index);
-    for (size_t i = 0; i < len; i++) text[i] ^= isalpha((unsigned char)text[i]) ? 0 : 32;
+    for (size_t i = 0; i < len; i++)
+        text[i] ^= isalpha((unsigned char)text[i]) ? 0 : 32;
     find(text, index);
-    for (size_t i = 0; i < len; i++) text[i] ^= 32;
+    for (size_t i = 0; i < len; i++)
+        text[i] ^= 32;
     find(text, index);
     text[len] = 'x';
     find(text, index);
@@ -98,8 +103,10 @@ static void find_like(size_t index) {
 static void find_octets(const uint8_t *octets, size_t len) {
     const const_oid_octets item = {octets, len};
     size_t first = 0, end;
-    while (first < count && const_oid_by_arcs(&rows[first], &item) != 0) first++;
-    for (end = first; end < count && const_oid_by_arcs(&rows[end], &item) == 0; end++) continue;
+    while (first < count && const_oid_by_arcs(&rows[first], &item) != 0)
+        first++;
+    for (end = first; end < count && const_oid_by_arcs(&rows[end], &item) == 0; end++)
+        continue;
     SEE(constants_of(octets, len) == (HAS_CONSTANTS ? end - first : 0), first);
     SEE(NAME_OF(octets, len) == first, first);
     SEE(const_oid_find(octets, len, items, count).len == first, first);
@@ -113,7 +120,9 @@ static void find_octets_like(const_oid_octets of) {
     memcpy(octets, of.octets, of.len + 1);
     for (size_t i = 0; i <= of.len; i++) {
         find_octets(of.octets, i + 1);
-        octets[i] ^= 1, find_octets(octets, of.len), octets[i] ^= 1;
+        octets[i] ^= 1;
+        find_octets(octets, of.len);
+        octets[i] ^= 1;
     }
     size_t len = const_oid_push_arc(of.octets, of.len, UINT32_MAX, octets, sizeof octets).len;
     size_t nearest = const_oid_nearest(octets, len, items, count).len;
@@ -131,7 +140,8 @@ static void find_longer(const_oid_octets of, size_t more) {
     memset(octets, 1, len);
     memcpy(octets, of.octets, of.len);
     for (unsigned end = 0; slot_of(octets, len) != slot; end++) {
-        for (size_t i = 1; i < 4; i++) octets[len - i] = end >> 7 * (i - 1) & 0x7F;
+        for (size_t i = 1; i < 4; i++)
+            octets[len - i] = end >> 7 * (i - 1) & 0x7F;
     }
     SEE(NAME_OF(octets, len) == count, more);
 }
@@ -139,7 +149,8 @@ static void find_longer(const_oid_octets of, size_t more) {
 int main(void) {
     static uint8_t made[sizeof rows / sizeof *rows][128];
     SEE(count == COUNT, count);
-    for (size_t i = 0; i < count; i++) items[i] = OCTETS(i);
+    for (size_t i = 0; i < count; i++)
+        items[i] = OCTETS(i);
     SEE(const_oid_check_sorted(items, count).code == CONST_OID_OK, count);
     for (size_t i = 0; i < count; i++) {
         const const_oid_octets constant = rows[i].octets;
@@ -152,7 +163,10 @@ int main(void) {
         SEE(strcmp(NAME(i), rows[i].name) == 0, i);
         find_like(i);
         find_octets_like(rows[i].octets);
-        if (i % 99 == 0) find_longer(rows[i].octets, 256), find_longer(rows[i].octets, 65536);
+        if (i % 99 > 0)
+            continue;
+        find_longer(rows[i].octets, 256);
+        find_longer(rows[i].octets, 65536);
     }
     SEE(NAME(count)[0] == 0 && OCTETS(count).len == 0, count);
     SEE(NAME_OF(NULL, 0) == count && NAME_OF((const uint8_t *)"\x80", 1) == count, 0);

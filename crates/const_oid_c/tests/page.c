@@ -15,10 +15,10 @@ static void get(const uint8_t *octets, size_t len) {
 /* Whether purposes are read, but not if one is cut, is none, or has its length in a longer form (X.690, 8.1.3.5). They
  * are in an extension of a certificate: SEQUENCE, 2.5.29.37, OCTET STRING, SEQUENCE of them (RFC 5280, 4.2.1.12). */
 static int reads_purposes(void) {
-    static const uint8_t der[] = {0x30, 29, 6, 3, 0x55, 29, 37, 4, 22, 0x30, 20,
-        6, 8, 0x2B, 6, 1, 5, 5, 7, 3, 2, 6, 8, 0x2B, 6, 1, 5, 5, 7, 3, 1};
-    static const uint8_t ber[] = {0x30, 30, 6, 3, 0x55, 29, 37, 4, 23, 0x30, 21,
-        6, 8, 0x2B, 6, 1, 5, 5, 7, 3, 2, 6, 0x81, 8, 0x2B, 6, 1, 5, 5, 7, 3, 1};
+    static const uint8_t der[] = {0x30, 29, 6, 3, 0x55, 29, 37, 4, 22, 0x30, 20, 6, 8, 0x2B, 6, 1, 5, 5, 7, 3, 2, 6, 8,
+        0x2B, 6, 1, 5, 5, 7, 3, 1};
+    static const uint8_t ber[] = {0x30, 30, 6, 3, 0x55, 29, 37, 4, 23, 0x30, 21, 6, 8, 0x2B, 6, 1, 5, 5, 7, 3, 2, 6,
+        0x81, 8, 0x2B, 6, 1, 5, 5, 7, 3, 1};
     return are_key_purposes(der + 11, der[10]) && are_key_purposes(NULL, 0) && !are_key_purposes(der + 11, 19)
         && !are_key_purposes(der + 2, 5) && !are_key_purposes(ber + 11, ber[10]);
 }

@@ -17,7 +17,8 @@ static const_oid_status parse(void *to, size_t room) {
 /* Displays octets, and counts the zero after the text. */
 static const_oid_status display(void *to, size_t room) {
     const_oid_status status = const_oid_display(at_end(LEFT, octets, len), len, to, room);
-    if (status.code == CONST_OID_OK || status.code == CONST_OID_OUTPUT_TOO_SHORT) status.len++;
+    if (status.code == CONST_OID_OK || status.code == CONST_OID_OUTPUT_TOO_SHORT)
+        status.len++;
     return status;
 }
 
@@ -54,14 +55,18 @@ static void see_row(const char *typed, const char *second, const char *third) {
     len = read.len;
     snprintf(blanks, sizeof blanks, "\t\n\f\r %s \r", typed);
     for (int i = 0; i < 2; i++) {
-        if (read.code == CONST_OID_OK) see_parsed(given[i], strlen(given[i]));
-        else see_wrong(given[i], strlen(given[i]), second, strtoul(third, NULL, 10));
+        if (read.code == CONST_OID_OK)
+            see_parsed(given[i], strlen(given[i]));
+        else
+            see_wrong(given[i], strlen(given[i]), second, strtoul(third, NULL, 10));
     }
-    if (read.code == CONST_OID_OK) see_displayed(third);
+    if (read.code == CONST_OID_OK)
+        see_displayed(third);
 }
 
 static void set_octets(const_oid_octets of) {
-    if (of.len > 0) memcpy(octets, of.octets, of.len);
+    if (of.len > 0)
+        memcpy(octets, of.octets, of.len);
     len = of.len;
 }
 
@@ -70,7 +75,8 @@ static void see_below(size_t row) {
     const size_t short_end = len + 3;
     for (; len < 60; len++) {
         octets[len] = (uint8_t)(len % 7 < 4 && len != short_end ? 0x81 + row % 13 : row % 128);
-        if (octets[len - 1] >= 0x80) continue;
+        if (octets[len - 1] >= 0x80)
+            continue;
         const const_oid_status displayed = in_room(display, ROOM / 4, 1);
         SEE(displayed.code == CONST_OID_OK && displayed.len == strlen((const char *)out) + 1, row);
         see_parsed((const char *)out, displayed.len - 1);
@@ -86,7 +92,8 @@ static void see_name(const char *name, const_oid_octets of, size_t row) {
     see_parsed(name, strlen(name));
     set_octets(of);
     const int leads_back = found.octets == of.octets && const_oid_to_name(of.octets, of.len) == name;
-    if (leads_back && const_oid_len(of.octets, of.len).len > 2) see_displayed(name);
+    if (leads_back && const_oid_len(of.octets, of.len).len > 2)
+        see_displayed(name);
     see_below(row);
 }
 
@@ -103,7 +110,8 @@ static void see_rows(void) {
 }
 
 static void see_not_utf8(void) {
-    static const char *const texts[] = {"\xFF", "cn\xFF", "cn.\xFF", "OID.\xC3", "1.2.\xFF", "sysUpTime.0.\xED\xA0\x80"};
+    static const char *const texts[] = {
+        "\xFF", "cn\xFF", "cn.\xFF", "OID.\xC3", "1.2.\xFF", "sysUpTime.0.\xED\xA0\x80"};
     for (line = 0; line < sizeof texts / sizeof *texts; line++) {
         const const_oid_status status = parsed(texts[line], strlen(texts[line]));
         SEE(status.code == CONST_OID_NOT_UTF8 && status.detail == 0 && status.len == 0, line);
@@ -115,7 +123,8 @@ static void see_no_dot(void) {
     for (uint32_t byte = 0; byte < 256; byte++) {
         const char below[] = {(char)byte, '1'};
         const const_oid_status status = const_oid_from_text_below((const uint8_t *)"*", 1, below, 2, octets, ROOM);
-        if (byte == '.') continue;
+        if (byte == '.')
+            continue;
         SEE(status.code == (byte < 0x80 ? (uint32_t)CONST_OID_DIGIT_EXPECTED : CONST_OID_NOT_UTF8), byte);
         SEE(status.detail == (byte < 0x80 ? byte : 0) && status.len == 0, byte);
     }
@@ -137,7 +146,8 @@ static void see_long(void) {
 
 int main(void) {
     see_rows();
-    for (size_t i = 0; i < CONST_OID_NAMES_COUNT; i++) see_name(const_oid_names[i], const_oid_name_octets[i], i);
+    for (size_t i = 0; i < CONST_OID_NAMES_COUNT; i++)
+        see_name(const_oid_names[i], const_oid_name_octets[i], i);
     for (size_t i = 0; i < CONST_OID_COMMON_NAMES_COUNT; i++)
         see_name(const_oid_common_name(i), const_oid_common_octets(i), i);
     see_wrong(NULL, 0, "OID value is empty", 0);

@@ -34,12 +34,14 @@ static uint8_t *end_of(enum slot slot) {
 /* A copy of an array at the end of its memory. */
 static void *at_end(enum slot slot, const void *items, size_t bytes) {
     SEE(bytes <= SLOT - AROUND, line);
-    if (bytes > 0) memcpy(end_of(slot) - bytes, items, bytes);
+    if (bytes > 0)
+        memcpy(end_of(slot) - bytes, items, bytes);
     return end_of(slot) - bytes;
 }
 
 static int is_kept(const uint8_t *bytes, size_t len) {
-    while (len > 0 && bytes[len - 1] == KEPT) len--;
+    while (len > 0 && bytes[len - 1] == KEPT)
+        len--;
     return len == 0;
 }
 

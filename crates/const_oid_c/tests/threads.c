@@ -32,7 +32,8 @@ static void call(unsigned arc, size_t count, results *to) {
     to->statuses[3] = const_oid_from_arcs(to->arcs, to->statuses[2].len, to->from_arcs, MOST);
     to->statuses[4] = const_oid_push_arc(octets, count, arc, to->child, MOST + 1);
     to->statuses[5] = const_oid_error_text(CONST_OID_ARC_INVALID, arc, to->error, sizeof to->error);
-    for (int i = 0; i < 6; i++) SEE(to->statuses[i].code == CONST_OID_OK, count);
+    for (int i = 0; i < 6; i++)
+        SEE(to->statuses[i].code == CONST_OID_OK, count);
 }
 
 static void *run(void *of_thread) {
@@ -50,8 +51,11 @@ int main(void) {
     pthread_t threads[THREADS];
     SEE(pthread_barrier_init(&start, NULL, THREADS) == 0, 0);
     for (unsigned i = 0; i < THREADS; i++)
-        for (int k = 0; k < COUNTS; k++) call(11 * (i + 1), counts[k], &alone[i][k]);
-    for (int i = 0; i < THREADS; i++) SEE(pthread_create(&threads[i], NULL, run, alone[i]) == 0, (size_t)i);
-    for (int i = 0; i < THREADS; i++) SEE(pthread_join(threads[i], NULL) == 0, (size_t)i);
+        for (int k = 0; k < COUNTS; k++)
+            call(11 * (i + 1), counts[k], &alone[i][k]);
+    for (int i = 0; i < THREADS; i++)
+        SEE(pthread_create(&threads[i], NULL, run, alone[i]) == 0, (size_t)i);
+    for (int i = 0; i < THREADS; i++)
+        SEE(pthread_join(threads[i], NULL) == 0, (size_t)i);
     return 0;
 }
