@@ -44,7 +44,8 @@ static inline int by_arcs(const uint8_t *a, size_t a_len, const uint8_t *b, size
         i++;
     if (i == a_len || i == b_len)
         return i < a_len ? 1 : i < b_len ? -1 : 0;
-    for (j = i; a[j] >= 0x80 && b[j] >= 0x80;)
+    j = i;
+    while (a[j] >= 0x80 && b[j] >= 0x80)
         j++;
     return (a[j] ^ b[j]) >= 0x80 ? (a[j] >= 0x80 ? 1 : -1) : a[i] < b[i] ? -1 : 1;
 }
@@ -63,9 +64,33 @@ static struct known {
     ASN1_OBJECT *object;
 } one, same, other, freed;
 static const uint8_t *der, *at;
-static uint8_t *to, out[ROOM];
-static size_t der_len, left;
+static uint8_t out[ROOM];
+static size_t der_len;
 static uint32_t arcs[ROOM];
+
+static inline int read_object(struct known *known) {
+    at = der;
+    known->object = d2i_ASN1_OBJECT(NULL, &at, (long)der_len);
+    return known->object != NULL;
+}
+
+static inline int read_and_free_object(void) {
+    if (!read_object(&freed))
+        return 0;
+    ASN1_OBJECT_free(freed.object);
+    return 1;
+}
+
+static inline int write_object(void) {
+    uint8_t *to = out;
+    return i2d_ASN1_OBJECT(one.object, &to) > 0;
+}
+
+static inline int parse_arcs(struct known *known) {
+    size_t left = der_len;
+    known->count = MAX_OID_LEN;
+    return asn_parse_objid((void *)der, &left, out, known->arcs, &known->count) != NULL;
+}
 
 #define O(known) known.octets.octets, known.octets.len
 #define KNOWN CONST_OID_OCTETS(CONSTANT)
@@ -73,18 +98,14 @@ static uint32_t arcs[ROOM];
 #define IS_KNOWN(known) (known.octets.len == sizeof CONSTANT - 1 && !memcmp(CONSTANT, O(known)))
 #define IS_SAME(known) (one.octets.len == known.octets.len && !memcmp(one.octets.octets, O(known)))
 #define A(known) known.arcs, known.count
-#define OBJECT(known) (at = der, (known).object = d2i_ASN1_OBJECT(NULL, &at, (long)der_len))
-#define PARSED(known) \
-    (left = der_len, (known).count = MAX_OID_LEN, \
-        asn_parse_objid((void *)der, &left, out, (known).arcs, &(known).count))
 /* clang-format off */
 /* A name, a call that is true, and then what it does, by whom, and what it checks. */
 #define CALLS(CALL) \
     CALL(from_der, !const_oid_from_der(der, der_len, &freed.octets).code) /* read DER, `const_oid_from_der`: element */ \
-    CALL(d2i, OBJECT(freed) && (ASN1_OBJECT_free(freed.object), 1)) /* read DER, OpenSSL: form */ \
+    CALL(d2i, read_and_free_object()) /* read DER, OpenSSL: form */ \
     CALL(read, read_element(der, der_len)) /* read DER, by hand: element */ \
     CALL(to_der, !const_oid_to_der(O(one), out, ROOM).code) /* write DER, `const_oid_to_der`: octets */ \
-    CALL(i2d, (to = out, i2d_ASN1_OBJECT(one.object, &to) > 0)) /* write DER, OpenSSL: – */ \
+    CALL(i2d, write_object()) /* write DER, OpenSSL: – */ \
     CALL(write, write_element(O(one), out)) /* write DER, by hand: – */ \
     CALL(equal, const_oid_is_equal(O(one), O(same))) /* equal, `const_oid_is_equal`: octets */ \
     CALL(objects, !OBJ_cmp(one.object, same.object)) /* equal, OpenSSL: – */ \
@@ -101,7 +122,7 @@ static uint32_t arcs[ROOM];
     CALL(is_not, !IS(other)) /* a constant's sibling, `CONST_OID_IS`: – */ \
     CALL(not_known, !IS_KNOWN(other)) /* a constant's sibling, by hand: – */ \
     CALL(arcs, !const_oid_arcs(O(one), arcs, ROOM).code) /* arcs, `const_oid_arcs`: octets */ \
-    CALL(objid, PARSED(one) != NULL) /* arcs, net-snmp, of DER: end */ \
+    CALL(objid, parse_arcs(&one)) /* arcs, net-snmp, of DER: end */ \
     CALL(read_arcs, put_arcs(arcs, O(one), put_number)) /* arcs, by hand: octets */ \
     CALL(cmp, const_oid_cmp(O(one), O(other)).detail) /* order of octets, `const_oid_cmp`: octets */ \
     CALL(by_octets, by_octets(O(one), O(other))) /* order of octets, by hand: – */ \
@@ -109,7 +130,6 @@ static uint32_t arcs[ROOM];
     CALL(items, const_oid_by_arcs(&one.octets, &other.octets)) /* order of arcs, `const_oid_by_arcs`: – */ \
     CALL(compare, snmp_oid_compare(A(one), A(other))) /* order of arcs, net-snmp: – */ \
     CALL(by_arcs, by_arcs(O(one), O(other))) /* order of arcs, by hand: – */
-#define AND(name, call) && call_##name()
 /* clang-format on */
 
 #define DEFINE(name, call) \
@@ -122,10 +142,14 @@ CALLS(DEFINE)
 int octets_to_text(const uint8_t *element, size_t len, char *text) {
     struct known *all[] = {&other, &same, &one};
     for (int i = 0; i < 3; i++) {
-        der = memcpy(all[i]->der, element, der_len = len);
+        der = memcpy(all[i]->der, element, len);
+        der_len = len;
         all[i]->der[len - 1] ^= i == 0;
-        if (const_oid_from_der(der, len, &all[i]->octets).code || !OBJECT(*all[i]) || !PARSED(*all[i]))
+        if (const_oid_from_der(der, len, &all[i]->octets).code)
+            return REJECTED;
+        if (!read_object(all[i]) || !parse_arcs(all[i]))
             return REJECTED;
     }
+#define AND(name, call) &&call_##name()
     return 1 CALLS(AND) ? 1 : REJECTED;
 }
