@@ -9,6 +9,7 @@ ghost use Rattle.std.specs.Iterator.{IsFiniteIterable};
 ghost use Rattle.const_oid.specs.Contents.{arcs_of_octets};
 ghost use Rattle.const_oid.specs.Identifier.{root_rule, IsEncoding};
 ghost use Rattle.const_oid.specs.Items.{TakesItems};
+ghost use Rattle.const_oid.specs.Output.{written_over};
 ghost use Rattle.const_oid.specs.Private.Octets.{GoesOn};
 ghost use Rattle.const_oid.specs.Text.{text_answer, text_of, FollowsArc};
 
@@ -35,7 +36,7 @@ pub struct Buffer<const SIZE: usize> {
     bytes: [u8; SIZE],
     used: u8,
     // Empty: it sets the alignment alone. A buffer then has the alignment of an `Error`, so in a `Result` both begin at
-    // the same offset. Without it, the compiler copies a `Result` in pieces that overlap, which takes more time.
+    // the same offset. Without it, the compiler copies a `Result` by copies that overlap, which takes more time.
     aligned: [u32; 0],
     ghost within: { used ≤ min SIZE 255 },
     ghost octets: { AreOctets (take used bytes) } by { Prim.hlevel props },
@@ -308,3 +309,17 @@ impl<const SIZE: usize> Hash for Buffer<SIZE> {
 // erase: omit
 #[cfg(test)]
 mod tests;
+
+/// Copies octets to the start of `out`, as `fast::copies::copy_to` does. The cargo crate alone calls it, for less code.
+// erase: const
+#[inline(always)]
+pub(crate) fn copy_by_octet(octets: &[u8], out: &mut [u8])
+    requires { length octets.now ≤ length out.old }
+    ensures { out.new ≡ written_over octets.now out.old }
+{
+    let mut index = 0;
+    while index < octets.len() && index < out.len() {
+        out[index] = octets[index];
+        index += 1;
+    }
+}

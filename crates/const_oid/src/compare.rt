@@ -10,8 +10,9 @@ ghost use Rattle.const_oid.specs.Private.Octets.{lens_cmp, length_at};
 ghost use Rattle.const_oid.specs.Private.Prefixes.{IsCommonPrefix};
 
 use crate::fast::comparison::{are_equal, same_start};
-use crate::fast::words::{CASE, WORD_OCTETS, last_word};
-use crate::parts::{CONTINUED, first_octets, without_last_part};
+use crate::fast::slices::first_octets;
+use crate::fast::words::{WORD_OCTETS, last_word};
+use crate::parts::{CONTINUED, without_last_part};
 use std::cmp::Ordering;
 
 /// Whether octets begin with others.
@@ -111,6 +112,9 @@ pub(crate) fn common_parts<'a>(octets: &'a [u8], others: &[u8]) -> &'a [u8]
     without_last_part(first_octets(octets, same + 1))
 }
 
+/// The bit of ASCII case.
+pub(crate) const CASE: u8 = 32;
+
 /// Whether names are the same, by their bytes. Words are compared first. Most that differ do so in the last one, also
 /// ignoring ASCII case, and else their bytes are compared.
 // erase: const
@@ -137,7 +141,7 @@ pub(crate) fn is_same_name(a: &[u8], b: &[u8]) -> bool
 }
 
 /// The first index from `start` up to `end` at which the octets differ, or `end` if there is none. Before `start` they
-/// must be the same. So the order by parts of all octets is that of the octets from the result on.
+/// must be the same. So the order by subidentifiers of all octets is that of the octets from the result on.
 #[tactic(auto, using(crate::proofs::ByParts::same_up_to))]
 #[inline(always)]
 const fn first_difference(a: &[u8], b: &[u8], start: usize, end: usize) -> usize

@@ -9,10 +9,9 @@ ghost use Rattle.const_oid.specs.declared.links.Key.{Key};
 ghost use Rattle.const_oid.specs.Oid.{oid_arcs, oid_octets};
 ghost use Rattle.const_oid.specs.Private.Links.{AreLinks, IsInSlot, key_of};
 
-use crate::compare::is_same_name;
+use crate::compare::{CASE, is_same_name};
 pub use crate::db_sorted::SortedDatabase;
 use crate::error::Result;
-use crate::fast::words::CASE;
 use crate::links::{Entry, Key, first_candidate, links_in, next_candidate};
 use crate::oid::Oid;
 

@@ -3,10 +3,11 @@
 //! `words`.
 
 pub(crate) mod comparison;
-// Not in Rust, for less code: there, buffers copy by `parts::copy_by_octet`.
+// Not in Rust, for less code: there, buffers copy by `buffer::copy_by_octet`.
 // erase: omit
 pub(crate) mod copies;
 pub(crate) mod lanes;
+pub(crate) mod slices;
 pub(crate) mod steps;
 pub(crate) mod windows;
 pub(crate) mod words;

@@ -1,7 +1,7 @@
 //! Laws over the definitions: functions without effect, whose contracts say what holds.
 //!
 //! A `rule` is either of the two rules of the root: `Wide`, which the crate keeps, or `Narrow`. An input is accepted if
-//! it has no fault. A group is the octets of one subidentifier.
+//! it has no error. In names, an error is a `fault`, and the octets of one subidentifier are a `group`.
 
 ghost use Rattle.std.specs.Prelude.{◌≡◌, ◌≢◌, ◌↔◌, ℕ, ◌+◌, ◌*◌, ◌^◌, ◌<◌, ◌≤◌, List, [], ◌∷◌, ◌++◌, length, map, drop, nat_lt, sum_by, count_by, IsTrue, Some, None, Ok, codes, ◌-◌, take, slice_get};
 ghost use Rattle.std.specs.Cmp.{IsTotalOrder};
@@ -166,7 +166,7 @@ pub fn order_of_arcs()
         → slice_cmp nat_cmp a b ≡ slice_cmp nat_cmp p x }
 {}
 
-/// The order of parts is total over any octets, valid or not. A tie means equal octets.
+/// The order by subidentifiers is total over any octets, valid or not. A tie means equal octets.
 pub fn order_of_parts()
     ensures total { IsTotalOrder parts_cmp }
     ensures equal { (a b : List ℕ) → (parts_cmp a b ≡ Equal) ↔ (a ≡ b) }
@@ -327,7 +327,7 @@ pub fn ranges()
         → BeginsWith y p }
 {}
 
-/// No input has the fault `Overflow`.
+/// No input has the error `Overflow`.
 #[tactic(auto, using(crate::proofs::Overflow::no_overflow))]
 pub fn no_overflow()
     ensures octets { (rule : RootRule) (octets : List ℕ) (capacity : ℕ)

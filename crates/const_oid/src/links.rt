@@ -7,7 +7,8 @@ ghost use Rattle.std.specs.Prelude.{◌≡◌, ◌+◌, ◌-◌, ◌^◌, ◌<�
 ghost use Rattle.const_oid.specs.Private.Links.{AreLinks, hash_of, hash_step, key_of, slot_of};
 ghost use Rattle.const_oid.specs.Private.Octets.{with_bits};
 
-use crate::fast::words::{CASE, WORD_OCTETS, last_word};
+use crate::compare::CASE;
+use crate::fast::words::{WORD_OCTETS, last_word};
 use crate::oid::Oid;
 
 /// An identifier and its name.

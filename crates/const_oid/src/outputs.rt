@@ -111,8 +111,8 @@ pub fn text_below(
     Some(write_dotted(oid.strip_prefix(prefix)?, out, 0))
 }
 
-/// Where the reading of a wrong text stops: at the end of a component whose arc has a fault, or, without one, within a
-/// component.
+/// Where the reading of a wrong text stops: with the error of an arc, at the end of its component, or, without one,
+/// within a component.
 #[derive(Copy, Clone)]
 pub struct Stop(pub Option<Error>, pub usize);
 

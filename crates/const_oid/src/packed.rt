@@ -9,8 +9,7 @@ ghost use Rattle.const_oid.specs.Packed.{IsPacked, name_at, octets_at, packed_ro
 ghost use Rattle.const_oid.specs.Private.Links.{AreLinks};
 ghost use Rattle.const_oid.specs.Private.Octets.{with_bits};
 
-use crate::compare::is_same_name;
-use crate::fast::words::CASE;
+use crate::compare::{CASE, is_same_name};
 use crate::links::{Entry, first_linked};
 use crate::oid::Oid;
 use std::str;
@@ -45,7 +44,7 @@ impl<'a> PackedDatabase<'a> {
     ghost use Rattle.const_oid.specs.Names.{lent_arcs};
     ghost use Rattle.const_oid.specs.Rows.{led, named, packed_rows_of, row_arcs, row_name, row_octets, IsRow};
 
-    /// A table of these parts. Only the cargo crate calls this.
+    /// A table of these slices. Only the cargo crate calls this.
     pub(crate) const fn new(
         oids: &'a [Oid],
         names: &'a [u8],

@@ -1,10 +1,11 @@
 //! Subidentifiers in octets: where they begin, and where they end. In names, they are `parts`. What is left after the
-//! last octet below 128 is a part, too. Also the first octets of a slice, and a copy by a loop.
+//! last octet below 128 is one, too.
 
 ghost use Rattle.std.specs.Prelude.{◌≡◌, ◌-◌, ◌≤◌, length, take, drop};
 ghost use Rattle.const_oid.specs.Contents.{cut};
-ghost use Rattle.const_oid.specs.Output.{written_over};
 ghost use Rattle.const_oid.specs.Private.Prefixes.{IsFinishedPrefix};
+
+use crate::fast::slices::first_octets;
 
 /// Bit 8. It is set in all octets of a subidentifier but the last (X.690, 8.19.2).
 pub(crate) const CONTINUED: u8 = 128;
@@ -54,36 +55,4 @@ pub(crate) fn last_part(octets: &[u8]) -> usize
         start -= 1;
     }
     start
-}
-
-/// The first `len` octets.
-#[inline(always)]
-pub(crate) fn first_octets(octets: &[u8], len: usize) -> &[u8]
-    requires { len ≤ length octets.now }
-    ensures { result.now ≡ take len octets.now }
-{
-    // Unlike an index, `get` compiles to no panic.
-    octets.get(..len).unwrap_or(&[])
-}
-
-/// The octets from an index on.
-#[inline(always)]
-pub(crate) fn octets_from(octets: &[u8], start: usize) -> &[u8]
-    ensures { result.now ≡ drop start octets.now }
-{
-    octets.get(start..).unwrap_or(&[])
-}
-
-/// Copies octets to the start of `out`, as `fast::copies::copy_to` does. The cargo crate alone calls it, for less code.
-// erase: const
-#[inline(always)]
-pub(crate) fn copy_by_octet(octets: &[u8], out: &mut [u8])
-    requires { length octets.now ≤ length out.old }
-    ensures { out.new ≡ written_over octets.now out.old }
-{
-    let mut index = 0;
-    while index < octets.len() && index < out.len() {
-        out[index] = octets[index];
-        index += 1;
-    }
 }

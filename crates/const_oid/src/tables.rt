@@ -17,11 +17,11 @@ use crate::arcs::Arcs;
 use crate::db::{Database, SortedDatabase};
 use crate::db_sorted::Entry;
 use crate::digits::{MAX_ARC_LEN, utf8, write_arc, write_bytes};
+use crate::fast::slices::octets_from;
 use crate::links::Entry as Lent;
 use crate::oid::Oid;
 use crate::oid_ref::ObjectIdentifierRef;
 use crate::packed::PackedDatabase;
-use crate::parts::octets_from;
 use crate::text::{text_len, write_dotted};
 use std::fmt;
 
@@ -74,6 +74,7 @@ impl<'a> Table<'a> {
 /// let shown = NAMES.display(&oid);
 /// assert_eq!((shown.to_string().as_str(), shown.text_len()), ("lamp.3", 6));
 /// assert_eq!((NAMES.by_name("Lamp"), NAMES.by_oid(&LAMP)), (Some(&LAMP), Some("lamp")));
+/// assert_eq!(NAMES.nearest(&oid).map(|(prefix, name)| (prefix.arcs().count(), name)), Some((8, "lamp")));
 /// assert_eq!(shown.encode_text(&mut [0; 5]), None);
 /// assert!(NAMES.is_readable());
 /// # Ok::<(), const_oid::Error>(())
@@ -175,8 +176,8 @@ impl<'a> Tables<'a> {
         }
     }
 
-    /// The text of an identifier: the name of its longest prefix of three arcs or more that has one and is what the name
-    /// leads to, and a dot and a decimal for each arc after it, or else dotted text. [`Tables`] has an example.
+    /// The text of an identifier: the name that is shown for its longest prefix of three arcs or more with one, and a
+    /// dot and a decimal for each arc after it, or else dotted text. [`Tables`] has an example.
     pub fn display(&self, oid: ObjectIdentifierRef<'a>) -> Display<'a>
         ensures { displayed_by result ≡ displayed (rows_in self.now) (ref_arcs oid.entry) }
     {

@@ -75,8 +75,8 @@ pub(crate) fn write_text(octets: &[u8], out: &mut [u8]) -> usize
     }
 }
 
-/// Checks octets and writes the text of their arcs at the start, in one pass, or returns their fault. There is room for
-/// four bytes an octet, and one arc more. If there is a fault, some of the text may be written.
+/// Checks octets and writes the text of their arcs at the start, in one pass, or returns their error. There is room for
+/// four bytes an octet, and one arc more. On an error, some of the text may be written.
 #[tactic(auto, using(crate::proofs::Printed::printed_pass, crate::proofs::Decimals::drop_more))]
 #[inline(always)]
 pub(crate) fn write_checked(octets: &[u8], out: &mut [u8]) -> Result<usize>
@@ -114,7 +114,7 @@ fn write_later(arc: Arc, out: &mut [u8], at: usize) -> usize
     ensures after { drop result out.new ≡ drop result out.old }
     ensures within { result ≤ length out.new }
 {
-    // The length of this part is a literal, so rustc checks no index in it.
+    // The length of this slice is a literal, so rustc checks no index in it.
     // erase: another body
     at + write_arc(arc, &mut out[at..at + MAX_ARC_LEN], 0)
 }

@@ -28,7 +28,8 @@ pub(crate) fn check(octets: &[u8]) -> Result<()>
     Ok(())
 }
 
-/// What `check_by_octet` returns. Its place in memory is set to zero first: here, and not where windows are enough.
+/// What `check_by_octet` returns. rt's build zeroes the slot of a call's result where the calling function begins: this
+/// one, and not `check`, for which windows are mostly enough.
 #[inline(always)]
 fn check_from(octets: &[u8], start: usize) -> Result<()>
     requires { start ≤ length octets.now }

@@ -19,8 +19,8 @@ unsafe extern "C" {
     /// Ends the process, in the C library.
     safe fn abort() -> !;
 
-    /// There is no such function: rustc asks only where one is imported whether what is behind its pointers has the layout
-    /// of C.
+    /// No such function exists. rustc's lint `improper_ctypes` looks behind the pointers of imported functions alone, and
+    /// so sees here that these types have a layout of C.
     #[allow(dead_code)]
     fn layouts(status: &erased::status::Status, octets: &edge::Octets<'_>, range: &erased::lists::Range);
 }

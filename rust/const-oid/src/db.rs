@@ -83,8 +83,9 @@ include!("db/common.rs");
 /// ```
 pub const DB: Database<'static> = Database::new(&ENTRIES).linked(&OID_LINKS, &NAME_LINKS);
 
-/// The entries of [`DB`] in the order of arcs, those of an identifier in the order of [`DB`]. So it finds another
-/// `hashAlgs`, 1.3.6.1.4.1.1722.12.2. [`SortedDatabase`] has an example.
+/// The entries of [`DB`] in the order of arcs, those of an identifier in the order of [`DB`]. Of a name of several
+/// identifiers, its `by_name` returns the first by arcs: of `hashAlgs` 1.3.6.1.4.1.1722.12.2, where [`DB`] has another
+/// first. [`SortedDatabase`] has an example.
 pub const SORTED: SortedDatabase<'static> = SortedDatabase::new_unchecked(&IN_ORDER);
 
 static IN_ORDER: [(&ObjectIdentifierRef, &str); DB.len()] = in_order(&ENTRIES, &ORDER);

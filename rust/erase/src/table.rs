@@ -129,7 +129,7 @@ pub const CRATES: &[Crate] = &[
                         lanes.to_bitmask().count_ones() as usize"
                 => "octets.iter().filter(|octet| **octet < limit).count()", LANES;
             "buffer" body: "copy_to(octets, &mut buffer.bytes);"
-                => "crate::erased::parts::copy_by_octet(octets, &mut buffer.bytes);",
+                => "copy_by_octet(octets, &mut buffer.bytes);",
                 "it takes two hundred octets of flash less";
             "buffer": "bytes: [u8; SIZE]," => "pub(crate) bytes: [u8; SIZE],", TABLES;
             "buffer": "used: u8," => "pub(crate) used: u8,", TABLES;

@@ -17,7 +17,8 @@ pub(crate) fn read_group(octets: &[u8]) -> (u64, &[u8]) {
     }
 }
 
-/// What `read_two_to_five` returns. Its place in memory is set to zero first: here, and not before each octet is read.
+/// What `read_two_to_five` returns. rt's build zeroes the slot of a call's result where the calling function begins:
+/// this one, and not `read_group`, which mostly reads one octet.
 #[inline(always)]
 fn read_longer(octets: &[u8]) -> (u64, &[u8]) {
     let (number, after) = read_two_to_five(octets);

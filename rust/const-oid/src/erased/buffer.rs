@@ -23,7 +23,7 @@ pub struct Buffer<const SIZE: usize> {
     pub(crate) bytes: [u8; SIZE],
     pub(crate) used: u8,
     // Empty: it sets the alignment alone. A buffer then has the alignment of an `Error`, so in a `Result` both begin at
-    // the same offset. Without it, the compiler copies a `Result` in pieces that overlap, which takes more time.
+    // the same offset. Without it, the compiler copies a `Result` by copies that overlap, which takes more time.
     pub(crate) aligned: [u32; 0],
 }
 
@@ -81,7 +81,7 @@ impl<const SIZE: usize> Buffer<SIZE> {
     #[inline(always)]
     pub(crate) const fn copied(octets: &[u8]) -> Self {
         let mut buffer = Buffer::empty();
-        crate::erased::parts::copy_by_octet(octets, &mut buffer.bytes);
+        copy_by_octet(octets, &mut buffer.bytes);
         buffer.used = octets.len() as u8;
         buffer
     }
@@ -175,5 +175,15 @@ impl<const SIZE: usize> Ord for Buffer<SIZE> {
 impl<const SIZE: usize> Hash for Buffer<SIZE> {
     fn hash<H: Hasher>(&self, state: &mut H) {
         self.as_bytes().hash(state);
+    }
+}
+
+/// Copies octets to the start of `out`, as `fast::copies::copy_to` does. The cargo crate alone calls it, for less code.
+#[inline(always)]
+pub(crate) const fn copy_by_octet(octets: &[u8], out: &mut [u8]) {
+    let mut index = 0;
+    while index < octets.len() && index < out.len() {
+        out[index] = octets[index];
+        index += 1;
     }
 }

@@ -3,8 +3,9 @@
 //! How slices of octets and names compare.
 
 use crate::erased::fast::comparison::{are_equal, same_start};
-use crate::erased::fast::words::{CASE, WORD_OCTETS, last_word};
-use crate::erased::parts::{CONTINUED, first_octets, without_last_part};
+use crate::erased::fast::slices::first_octets;
+use crate::erased::fast::words::{WORD_OCTETS, last_word};
+use crate::erased::parts::{CONTINUED, without_last_part};
 use core::cmp::Ordering;
 
 /// Whether octets begin with others.
@@ -76,6 +77,9 @@ pub(crate) fn common_parts<'a>(octets: &'a [u8], others: &[u8]) -> &'a [u8] {
     without_last_part(first_octets(octets, same + 1))
 }
 
+/// The bit of ASCII case.
+pub(crate) const CASE: u8 = 32;
+
 /// Whether names are the same, by their bytes. Words are compared first. Most that differ do so in the last one, also
 /// ignoring ASCII case, and else their bytes are compared.
 pub(crate) const fn is_same_name(a: &[u8], b: &[u8]) -> bool {
@@ -99,7 +103,7 @@ pub(crate) const fn is_same_name(a: &[u8], b: &[u8]) -> bool {
 }
 
 /// The first index from `start` up to `end` at which the octets differ, or `end` if there is none. Before `start` they
-/// must be the same. So the order by parts of all octets is that of the octets from the result on.
+/// must be the same. So the order by subidentifiers of all octets is that of the octets from the result on.
 #[inline(always)]
 const fn first_difference(a: &[u8], b: &[u8], start: usize, end: usize) -> usize {
     let mut index = start;

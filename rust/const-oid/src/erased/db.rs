@@ -2,10 +2,9 @@
 
 //! Names of identifiers, by a table that the caller holds.
 
-use crate::erased::compare::is_same_name;
+use crate::erased::compare::{CASE, is_same_name};
 pub use crate::erased::db_sorted::SortedDatabase;
 use crate::erased::error::Result;
-use crate::erased::fast::words::CASE;
 use crate::erased::links::{Entry, Key, first_candidate, links_in, next_candidate};
 use crate::erased::oid::Oid;
 

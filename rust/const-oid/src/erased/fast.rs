@@ -6,6 +6,7 @@
 
 pub(crate) mod comparison;
 pub(crate) mod lanes;
+pub(crate) mod slices;
 pub(crate) mod steps;
 pub(crate) mod windows;
 pub(crate) mod words;

@@ -5,7 +5,8 @@
 //! There is a link for each entry, to the next one of its slot, and then one for each slot, to its first entry. If
 //! there is none, the link is the number of entries. In a table without links, a lookup reads all entries.
 
-use crate::erased::fast::words::{CASE, WORD_OCTETS, last_word};
+use crate::erased::compare::CASE;
+use crate::erased::fast::words::{WORD_OCTETS, last_word};
 use crate::erased::oid::Oid;
 
 /// An identifier and its name.

@@ -42,8 +42,8 @@ pub struct ObjectIdentifierRef {
 impl ObjectIdentifierRef {
     /// Decodes contents octets (X.690, 8.19).
     ///
-    /// Tag and length are not removed: an element `06 09 2A ..` is no error, but 0.6.9.42 and so on, and neither is the
-    /// text `2.5`, but 1.10.46.53. Use [`read_element`](Self::read_element) and [`from_ascii_in`](Self::from_ascii_in).
+    /// Tag and length are not removed: of an element `06 09 2A ..` the result is 0.6.9.42 and so on, and of the text
+    /// `2.5` it is 1.10.46.53. Use [`read_element`](Self::read_element) and [`from_ascii_in`](Self::from_ascii_in).
     ///
     /// # Errors
     ///

@@ -2,8 +2,7 @@
 
 //! Names of identifiers, by a table without pointers.
 
-use crate::erased::compare::is_same_name;
-use crate::erased::fast::words::CASE;
+use crate::erased::compare::{CASE, is_same_name};
 use crate::erased::links::{Entry, first_linked};
 use crate::erased::oid::Oid;
 use core::str;
@@ -31,7 +30,7 @@ pub struct PackedDatabase<'a> {
 }
 
 impl<'a> PackedDatabase<'a> {
-    /// A table of these parts. Only the cargo crate calls this.
+    /// A table of these slices. Only the cargo crate calls this.
     pub(crate) const fn new(
         oids: &'a [Oid],
         names: &'a [u8],

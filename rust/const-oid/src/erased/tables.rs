@@ -6,11 +6,11 @@ use crate::erased::arcs::Arcs;
 use crate::erased::db::{Database, SortedDatabase};
 use crate::erased::db_sorted::Entry;
 use crate::erased::digits::{MAX_ARC_LEN, utf8, write_arc, write_bytes};
+use crate::erased::fast::slices::octets_from;
 use crate::erased::links::Entry as Lent;
 use crate::erased::oid::Oid;
 use crate::erased::oid_ref::ObjectIdentifierRef;
 use crate::erased::packed::PackedDatabase;
-use crate::erased::parts::octets_from;
 use crate::erased::text::{text_len, write_dotted};
 use core::fmt;
 
@@ -54,6 +54,7 @@ impl<'a> Table<'a> {
 /// let shown = NAMES.display(&oid);
 /// assert_eq!((shown.to_string().as_str(), shown.text_len()), ("lamp.3", 6));
 /// assert_eq!((NAMES.by_name("Lamp"), NAMES.by_oid(&LAMP)), (Some(&LAMP), Some("lamp")));
+/// assert_eq!(NAMES.nearest(&oid).map(|(prefix, name)| (prefix.arcs().count(), name)), Some((8, "lamp")));
 /// assert_eq!(shown.encode_text(&mut [0; 5]), None);
 /// assert!(NAMES.is_readable());
 /// # Ok::<(), const_oid::Error>(())
@@ -130,8 +131,8 @@ impl<'a> Tables<'a> {
         if other.eq_last_first(&oid) { Some(name) } else { None }
     }
 
-    /// The text of an identifier: the name of its longest prefix of three arcs or more that has one and is what the name
-    /// leads to, and a dot and a decimal for each arc after it, or else dotted text. [`Tables`] has an example.
+    /// The text of an identifier: the name that is shown for its longest prefix of three arcs or more with one, and a
+    /// dot and a decimal for each arc after it, or else dotted text. [`Tables`] has an example.
     #[must_use]
     pub fn display(&self, oid: &'a ObjectIdentifierRef) -> Display<'a> {
         match self.shown_above(oid) {

@@ -56,8 +56,8 @@ pub(crate) fn write_text(octets: &[u8], out: &mut [u8]) -> usize {
     }
 }
 
-/// Checks octets and writes the text of their arcs at the start, in one pass, or returns their fault. There is room for
-/// four bytes an octet, and one arc more. If there is a fault, some of the text may be written.
+/// Checks octets and writes the text of their arcs at the start, in one pass, or returns their error. There is room for
+/// four bytes an octet, and one arc more. On an error, some of the text may be written.
 #[inline(always)]
 pub(crate) fn write_checked(octets: &[u8], out: &mut [u8]) -> Result<usize> {
     if octets.is_empty() {
@@ -84,6 +84,6 @@ pub(crate) fn write_checked(octets: &[u8], out: &mut [u8]) -> Result<usize> {
 /// Writes an arc and the dot before it at an index, after which any arc has room, and returns the index after it.
 #[inline(always)]
 fn write_later(arc: Arc, out: &mut [u8], at: usize) -> usize {
-    // The length of this part is a literal, so rustc checks no index in it.
+    // The length of this slice is a literal, so rustc checks no index in it.
     at + write_arc(arc, &mut out[at..][..MAX_ARC_LEN], 0)
 }

@@ -8,9 +8,6 @@ pub(crate) const WORD_OCTETS: usize = 8;
 /// How many octets half a word has.
 pub(crate) const HALF_OCTETS: usize = 4;
 
-/// The bit of ASCII case.
-pub(crate) const CASE: u8 = 32;
-
 /// The eight octets from `at` on as a big-endian number: so words have the lexicographic order of their octets.
 #[inline(always)]
 pub(crate) const fn word(octets: &[u8], at: usize) -> u64 {

@@ -1,5 +1,5 @@
 use Rattle.std.proofs.Common.{◌≡◌, ◌-◌, ◌≤◌, length, take, drop}
-use Rattle.const_oid.proofs.parts.copy_by_octet.Given as goal
+use Rattle.const_oid.proofs.buffer.copy_by_octet.Given as goal
 
 abbrev pub invariant-loop-index : goal.invariant-loop-index
 invariant-loop-index l = record {
