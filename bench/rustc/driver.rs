@@ -66,10 +66,15 @@ macro_rules! side {
             }
 
             pub fn run(row: &str, size: usize, times: usize) {
-                let (text, wrong) = (TEXTS[size], &format!("{}.x", TEXTS[size]));
+                let text = TEXTS[size];
+                let wrong = &format!("{}.x", TEXTS[size]);
                 let [oid, next, parent] = &values(text);
-                let (oid, next, parent, octets) = (&oid.0, &next.0, &parent.0, oid.0.as_bytes());
-                let (lent, other) = (oid.as_oid_ref(), next.as_oid_ref());
+                let next = &next.0;
+                let parent = &parent.0;
+                let octets = oid.0.as_bytes();
+                let oid = &oid.0;
+                let lent = oid.as_oid_ref();
+                let other = next.as_oid_ref();
                 match row {
                     "new" => repeat(times, || ObjectIdentifier::new(black_box(text)).is_ok()),
                     "new, an error at the end" => repeat(times, || ObjectIdentifier::new(black_box(wrong)).is_ok()),

@@ -29,10 +29,13 @@ pub fn sum(side: &str, row: &str, count: u32, times: usize) -> usize {
     let rows: Vec<_> = (0..count).map(|index| (item(row, index), name(row, index))).collect();
     let entries: Vec<_> = rows.iter().map(|(oid, name)| (oid, &**name)).collect();
     let lent: Vec<_> = entries.iter().map(|(oid, name)| (oid.as_oid_ref(), *name)).collect();
-    let (scanned, mut memory) = (Database::new(&entries), vec![0; 6 * entries.len()]);
-    let (indexed, sorted) = (scanned.indexed(&mut memory), SortedDatabase::try_new(&lent).unwrap());
+    let scanned = Database::new(&entries);
+    let mut memory = vec![0; 6 * entries.len()];
+    let indexed = scanned.indexed(&mut memory);
+    let sorted = SortedDatabase::try_new(&lent).unwrap();
     let map = || entries.iter().copied().collect::<Map<_, _>>();
-    let (oids, names) = (map(), entries.iter().map(|(oid, name)| (*name, *oid)).collect::<Map<_, _>>());
+    let oids = map();
+    let names = entries.iter().map(|(oid, name)| (*name, *oid)).collect::<Map<_, _>>();
 
     let last = |oid: &ObjectIdentifier| usize::from(*oid.as_bytes().last().unwrap());
     let call: &dyn Fn(&ObjectIdentifier, &str) -> Option<usize> = match (side, row) {

@@ -129,12 +129,14 @@ fn main() {
     let lent: Vec<&ObjectIdentifierRef> = oids.iter().map(|oid| oid.as_oid_ref()).collect();
     let found = if side == "c" {
         let item = |oid: &&ObjectIdentifierRef| Octets { octets: oid.as_bytes().as_ptr(), len: oid.as_bytes().len() };
-        let (call, items) = (in_c(row), lent.iter().map(item).collect::<Vec<Octets>>());
+        let call = in_c(row);
+        let items = lent.iter().map(item).collect::<Vec<Octets>>();
         times.fold(0, |sum: usize, key| sum.wrapping_add(call(key.as_bytes(), black_box(&items))))
     } else {
         let names = " ".repeat(oids.len());
         let entries: Vec<_> = lent.iter().enumerate().map(|(index, oid)| (*oid, &names[..index])).collect();
-        let (call, sorted) = (in_crate(row), SortedDatabase::try_new(&entries).unwrap());
+        let call = in_crate(row);
+        let sorted = SortedDatabase::try_new(&entries).unwrap();
         times.fold(0, |sum: usize, key| sum.wrapping_add(call(key, black_box(&sorted))))
     };
     println!("{found}");

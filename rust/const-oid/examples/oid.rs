@@ -126,7 +126,8 @@ fn letters(name: &str) -> impl Iterator<Item = u8> {
 /// What is printed of an identifier, for which a name was given.
 fn describe(oid: &ObjectIdentifierRef, given: &str) -> String {
     let octets: Vec<String> = oid.as_bytes().iter().map(|octet| format!("{octet:02X}")).collect();
-    let (by_name, octets) = (db::display(oid), octets.join(" "));
+    let by_name = db::display(oid);
+    let octets = octets.join(" ");
     let arcs: Vec<u32> = oid.arcs().collect();
     let mut lines = format!("{oid}\n  by name: {by_name}\n  octets: {octets}\n  arcs: {arcs:?}\n");
     for (kind, table) in TABLES {

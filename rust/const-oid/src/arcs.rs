@@ -11,7 +11,8 @@ impl FusedIterator for Arcs<'_> {}
 /// belong.
 #[inline]
 pub(crate) fn bounds(octets: &[u8], has_other: bool) -> (usize, Option<usize>) {
-    let (len, other) = (octets.len(), usize::from(has_other));
+    let len = octets.len();
+    let other = usize::from(has_other);
     let least = if let Some(last) = octets.last_chunk() {
         let ends = !u64::from_be_bytes(*last) >> 7 & 0x0101_0101_0101_0101;
         (len - 8) / 5 + (ends.wrapping_mul(0x0101_0101_0101_0101) >> 56) as usize

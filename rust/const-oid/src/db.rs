@@ -219,7 +219,8 @@ fn links_are_those_of_the_entries() {
 /// entries and two.
 #[test]
 fn links_are_made_where_they_help() {
-    let (had, mut memory) = ([8; 41], [0; 6_000]);
+    let had = [8; 41];
+    let mut memory = [0; 6_000];
     for (names, before, len, made) in [
         ("aAaAefgh", 0, 80, 40),
         ("[{[{[fgh", 0, 80, 0),

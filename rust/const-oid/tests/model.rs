@@ -142,7 +142,9 @@ mod model {
 
     /// Stops at the index of a wrong component.
     fn of_components(text: &[u8], capacity: usize, stop: &mut usize) -> Answer {
-        let (mut arcs, mut room, mut start) = (Vec::new(), capacity, 0);
+        let mut arcs = Vec::new();
+        let mut room = capacity;
+        let mut start = 0;
         for (index, component) in text.split(|byte| *byte == b'.').enumerate() {
             *stop = index;
             let rest = &text[start + component.len()..];
@@ -408,7 +410,8 @@ macro_rules! assert_same {
 /// The methods of an iterator over these items, after it gave some of them, all, or `None`.
 fn check_iterator<T: Copy + Debug + Ord>(items: impl FusedIterator<Item = T> + Clone + Debug, all: &[T]) {
     for taken in [0, 1, 2, 3, all.len(), all.len() + 1] {
-        let (mut given, rest) = (items.clone(), &all[taken.min(all.len())..]);
+        let mut given = items.clone();
+        let rest = &all[taken.min(all.len())..];
         (0..taken).for_each(|index| assert_eq!(given.next(), all.get(index).copied()));
         let (low, high) = given.size_hint();
         assert!(low <= rest.len() && high >= Some(rest.len()), "{low} to {high:?} of {rest:?}");
@@ -421,7 +424,8 @@ fn check_iterator<T: Copy + Debug + Ord>(items: impl FusedIterator<Item = T> + C
 /// The methods that an iterator can override. Adapters have types that are made in core alone.
 #[allow(unused_mut)]
 fn check_methods<T: Copy + Debug + Ord>(given: &(impl Iterator<Item = T> + Clone), rest: &[T], count: usize) {
-    let (is_wanted, other) = (|item| Some(&item) == rest.get(count), || rest.iter().copied().skip(count));
+    let is_wanted = |item| Some(&item) == rest.get(count);
+    let other = || rest.iter().copied().skip(count);
     assert_same!(given, rest, it:
         it.count(); it.last(); it.max(); it.min(); it.max_by(T::cmp); it.min_by(T::cmp); it.max_by_key(|item| *item);
         it.min_by_key(|item| *item); it.is_sorted(); it.is_sorted_by(T::le); it.is_sorted_by_key(|item| item);
@@ -465,7 +469,8 @@ fn indices(len: usize) -> impl Iterator<Item = usize> {
 
 /// Display and Debug, whatever the options.
 fn check_text_of(oid: &(impl Display + Debug + ?Sized), text: &str, name: &str) {
-    let (wide, debug) = (text.len() + 30, format!("{name}({text})"));
+    let wide = text.len() + 30;
+    let debug = format!("{name}({text})");
     assert_eq!([oid.to_string(), format!("{oid:>wide$}"), format!("{oid:*>+#0wide$.0}")], [text; 3]);
     let printed = [format!("{oid:?}"), format!("{oid:#?}"), format!("{oid:>wide$?}"), format!("{oid:*>+#0wide$.3x?}")];
     assert_eq!(printed, [&*debug; 4]);
@@ -550,8 +555,11 @@ fn check_ends<T: Ord + Copy + Debug>(a: T, b: T) {
 /// The functions of two identifiers, in each pair of forms, if octets are valid.
 fn check_pair(a: &[u8], b: &[u8]) {
     let (Ok(p), Ok(q)) = (model::of_octets(a), model::of_octets(b)) else { return };
-    let (x, y) = (ObjectIdentifierRef::from_bytes(a).unwrap(), ObjectIdentifierRef::from_bytes(b).unwrap());
-    let (is_equal, starts, by_arcs) = (a == b, p.starts_with(&q), p.cmp(&q));
+    let x = ObjectIdentifierRef::from_bytes(a).unwrap();
+    let y = ObjectIdentifierRef::from_bytes(b).unwrap();
+    let is_equal = a == b;
+    let starts = p.starts_with(&q);
+    let by_arcs = p.cmp(&q);
     let rest = p.strip_prefix(q.as_slice()).map(Vec::from);
     check_order(x, y, a.cmp(b));
     check_order(ByArcs::of(x), ByArcs::of(y), by_arcs);
@@ -885,7 +893,8 @@ mod searches {
         let found = [table.nearest(oid), table.next_after(oid)].into_iter().flatten().chain(table.subtree(oid));
         let are_entries = found.map(std::ptr::from_ref).all(|entry| entries.as_ptr_range().contains(&entry));
         assert!(are_entries && table.by_oid(oid).is_none_or(|name| name == "name"), "{oid} in {list:?}");
-        let (range, other) = (oid.subtree(list), subtree_of(&entries, oid));
+        let range = oid.subtree(list);
+        let other = subtree_of(&entries, oid);
         let ends = [first_of, nearest_of].map(|search| search(&entries, oid).map_or(0, |index| index + 1));
         let places = [start_of, end_of].map(|search| search(&entries, oid));
         let most = ends.into_iter().chain(places).chain([range.1, other.1]).max();
@@ -913,13 +922,15 @@ mod searches {
     /// A binary search of n items reads log2(n) + 2 at most, a run of n items, one or more, 4/3 log2(n) + 7 at most.
     #[test]
     fn reads_few_items() {
-        let (reads, log) = (Cell::new(0), |count: usize| (count.max(1) as f64).log2());
+        let reads = Cell::new(0);
+        let log = |count: usize| (count.max(1) as f64).log2();
         for len in [1_000, 100_000] {
             let octets = (0..len).map(|row| [0x2A, row >> 14, row >> 7 & 127, row & 127].map(|octet| octet as u8));
             let items: Vec<Item<'_>> = octets.map(|octets| Item(octets, &reads)).collect();
             let runs = [len, len.min(16_384), 128.min(len - 896), 1, 0, 0];
             for (text, run) in ["1.2", "1.2.0", "1.2.0.7", "1.2.0.7.1", "1.2.0.7.1.1", "2.5"].into_iter().zip(runs) {
-                let (oid, search) = (&*ObjectIdentifier::new_unwrap(text), log(len) + 2.0);
+                let oid = &*ObjectIdentifier::new_unwrap(text);
+                let search = log(len) + 2.0;
                 let counts = [
                     ((start_of(&items, oid), reads.take()).1, search),
                     ((end_of(&items, oid), reads.take()).1, search),

@@ -6,7 +6,9 @@ use crate::token::{is_blank, tokens};
 /// The tokens with `new` in place of `old`, and the number of places. Neither space nor comments are compared.
 pub fn replaced<'a>(source: &[&'a str], old: &str, new: &'a str) -> (Vec<&'a str>, usize) {
     let old: Vec<&str> = tokens(old).into_iter().filter(|token| !is_blank(token)).collect();
-    let (mut out, mut places, mut at) = (Vec::new(), 0, 0);
+    let mut out = Vec::new();
+    let mut places = 0;
+    let mut at = 0;
     while at < source.len() {
         if let Some(len) = len_of(&source[at..], &old) {
             out.extend(tokens(new));
@@ -34,7 +36,8 @@ pub fn edited<'a>(source: &[&'a str], table: &Crate, module: &str, places: &mut 
     for (edit, places) in table.edits.iter().zip(places) {
         if edit.module.is_empty() || edit.module.trim_end_matches('*') == module {
             let (tokens, more) = replaced(&out, edit.old, edit.new);
-            (out, *places) = (tokens, *places + more);
+            out = tokens;
+            *places += more;
         }
     }
     out

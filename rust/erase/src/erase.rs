@@ -39,9 +39,12 @@ pub fn erase(source: &str) -> Vec<&str> {
 
 /// Without ghosts, contracts, tactics and impls of `Model`, with `#[must_use]` and with what the commands say.
 fn without_ghosts<'a>(tokens: &[&'a str]) -> Vec<&'a str> {
-    let (mut out, mut at, mut qualifier) = (Vec::new(), 0, None);
+    let mut out = Vec::new();
+    let mut at = 0;
+    let mut qualifier = None;
     while at < tokens.len() {
-        let (token, rest) = (tokens[at], &tokens[at..]);
+        let token = tokens[at];
+        let rest = &tokens[at..];
         let left_out = match token {
             "ghost" | OMIT => Some(member_len(rest)),
             "requires" | "ensures" => Some(item_len(rest)),

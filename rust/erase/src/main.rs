@@ -90,7 +90,8 @@ fn generated() -> Result<Vec<File>> {
         let module = path[FOR_C.len() + 1..].trim_end_matches(".rt").replace('/', "::");
         calls.extend(calls::calls(&module, &read(&path)?));
     }
-    let (table, common) = (read(TABLE)?, read(COMMON_TABLE)?);
+    let table = read(TABLE)?;
+    let common = read(COMMON_TABLE)?;
     files.extend([
         file("rust/const-oid/src/db/names.rs", TABLE, &names::modules(&table)),
         file("rust/const-oid/src/db/common.rs", COMMON_TABLE, &names::common(&common)),

@@ -5,7 +5,8 @@
 
 /// The tokens of a source. A lifetime is a mark and a word.
 pub fn tokens(source: &str) -> Vec<&str> {
-    let (mut out, mut rest) = (Vec::new(), source);
+    let mut out = Vec::new();
+    let mut rest = source;
     while !rest.is_empty() {
         let (token, after) = rest.split_at(next_len(rest));
         out.push(token);
