@@ -48,20 +48,23 @@ impl<const MAX_SIZE: usize> Borrow<ObjectIdentifierRef> for ObjectIdentifier<MAX
     }
 }
 
-/// The octets, as a slice.
-macro_rules! octets {
-    ($($type:ident $(<$size:ident>)?)*) => {
-        $(
-            impl $(<const $size: usize>)? AsRef<[u8]> for $type $(<$size>)? {
-                fn as_ref(&self) -> &[u8] {
-                    self.as_bytes()
-                }
-            }
-        )*
-    };
+impl<const MAX_SIZE: usize> AsRef<[u8]> for Buffer<MAX_SIZE> {
+    fn as_ref(&self) -> &[u8] {
+        self.as_bytes()
+    }
 }
 
-octets!(Buffer<MAX_SIZE> ObjectIdentifier<MAX_SIZE> ObjectIdentifierRef);
+impl<const MAX_SIZE: usize> AsRef<[u8]> for ObjectIdentifier<MAX_SIZE> {
+    fn as_ref(&self) -> &[u8] {
+        self.as_bytes()
+    }
+}
+
+impl AsRef<[u8]> for ObjectIdentifierRef {
+    fn as_ref(&self) -> &[u8] {
+        self.as_bytes()
+    }
+}
 
 impl TryFrom<&[u8]> for ObjectIdentifier {
     type Error = Error;
