@@ -19,8 +19,8 @@ unsafe extern "C" {
     /// Ends the process, in the C library.
     safe fn abort() -> !;
 
-    /// No such function exists. rustc's lint `improper_ctypes` looks behind the pointers of imported functions alone, and
-    /// so sees here that these types have a layout of C.
+    /// No library has this function, and nothing calls it. rustc checks that types behind pointers have the layout of C
+    /// only in a declaration such as this one.
     #[allow(dead_code)]
     fn layouts(status: &erased::status::Status, octets: &edge::Octets<'_>, range: &erased::lists::Range);
 }
