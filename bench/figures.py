@@ -1,4 +1,5 @@
 """Figures of the bench: instructions, as callgrind counts them, and tables."""
+
 import re
 import shutil
 import subprocess

@@ -6,6 +6,7 @@ sortedcontainers and a dict, a key where a call takes all; and the octets that a
 It ends with status 1 if a row is slower here than in the fastest of these packages, or than with a SortedDict, aside
 from the text of asn1crypto, which it keeps. pyasn1 and asn1crypto encode and decode whole values, with tag and length.
 """
+
 import contextlib
 import sys
 import time

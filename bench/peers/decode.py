@@ -1,4 +1,5 @@
 """Calls from Python. jpype calls Java."""
+
 import sys
 
 if sys.argv[1] == "pyasn1":

@@ -1,4 +1,5 @@
 """Inputs and their results, from X.660 (arcs) and X.690 (8.19: octets; 8.1 and 10.1: tag and length) alone."""
+
 from random import choice, randrange, seed
 
 EDGES = [
@@ -47,13 +48,11 @@ def drawn(wide):
     ]
     if arcs[0] < 2:
         arcs[1] = randrange(40)
-    return (
-        arcs
-        if not wide
-        else [*arcs, choice(WIDE)]
-        if randrange(2) or arcs[0] < 2
-        else [2, choice(WIDE), *arcs[2:]]
-    )
+    if not wide:
+        return arcs
+    if randrange(2) or arcs[0] < 2:
+        return [*arcs, choice(WIDE)]
+    return [2, choice(WIDE), *arcs[2:]]
 
 
 def group(number, more=0):

@@ -1,7 +1,9 @@
 #!/usr/bin/env python3
 """bench/peers/pictures.py [--check]: draws docs/matrix.svg and docs/cost.svg from the tables of docs/PEERS.md.
 
-With --check it writes nothing, and the exit status is 1 if a picture is not the one of its table."""
+With --check it writes nothing, and the exit status is 1 if a picture is not the one of its table.
+"""
+
 import pathlib
 import re
 import sys
