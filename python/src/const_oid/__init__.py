@@ -208,7 +208,6 @@ def _wrong_type(wanted: str, given: object) -> TypeError:
     for field, text in _OF_OTHERS.items():
         if hasattr(kind, field):
             hint = f"ObjectIdentifier takes {text}"
-            break
     return TypeError(f"{wanted}, not {name}" + (f" ({hint})" if hint else ""))
 
 
