@@ -22,13 +22,13 @@ const SIGNING: &str = "2.23.140.1.4.1\n  by name: code-signing\n  octets: 67 81 
 const COUNTRIES: &str = "2.5.4.98 countryCode3c\n2.5.4.99 countryCode3n\n";
 const EXTENSIONS: &str = "2.5.29\n  by name: id-ce\n  octets: 55 1D\n  arcs: [2, 5, 29]\n  names: id-ce
   common names: id_ce\n";
-const NO_NAME: &str = "2.9\n  by name: 2.9\n  octets: 59\n  arcs: [2, 9]\n";
+const NO_NAME: &str = "1.9\n  by name: 1.9\n  octets: 31\n  arcs: [1, 9]\n";
 const ELEMENT: &str = "0.6.2.42.3\n  by name: 0.6.2.42.3\n  octets: 06 02 2A 03\n  arcs: [0, 6, 2, 42, 3]\n";
 const SHORT: &str = "0.6.1.42.79\n  by name: 0.6.1.42.79\n  octets: 06 01 2A 4F\n  arcs: [0, 6, 1, 42, 79]\n";
 
 /// Arguments with spaces between them, what is printed, and the errors.
 const ROWS: &[(&str, &str, &str)] = &[
-    ("2.9", NO_NAME, ""),
+    ("1.9", NO_NAME, ""),
     ("2.5.4.3", CN, ""),
     ("550403 --hex", CN, ""),
     ("551D", EXTENSIONS, ""),
@@ -113,13 +113,13 @@ fn prints_each_row() {
 /// A line may end as in Windows, or not at all, and may be blank. It may not be a flag.
 #[test]
 fn reads_lines() {
-    let lines = b"\n \r\n2.5.4.3\r\n--hex\n\xFF\n-\n 2.9";
+    let lines = b"\n \r\n2.5.4.3\r\n--hex\n\xFF\n-\n 1.9";
     let errors = "--hex: expected digit, got '-'\n\u{FFFD}: not UTF-8\n-: expected digit, got '-'\n";
     let printed = CN.to_owned() + NO_NAME;
     for arguments in [&[][..], &["-"], &["--", "-", "-"]] {
         assert_runs(&mut oid(arguments), lines, &printed, errors, 1);
     }
-    assert_runs(&mut oid(&["-", "--hex"]), b"550403 \r\n59", &printed, "", 0);
+    assert_runs(&mut oid(&["-", "--hex"]), b"550403 \r\n31", &printed, "", 0);
 }
 
 /// After a wrong flag nothing is printed but its error.
@@ -169,8 +169,8 @@ fn a_closed_output_ends_it() {
 #[test]
 fn an_argument_may_be_any_octets() {
     let [input, flag] = [&b"\xFF.2"[..], b"-\xFF"].map(std::os::unix::ffi::OsStrExt::from_bytes);
-    assert_runs(oid(&["2.9"]).arg::<&OsStr>(input), b"", NO_NAME, "\u{FFFD}.2: not UTF-8\n", 1);
-    assert_runs(oid(&["2.9"]).arg::<&OsStr>(flag), b"", "", "-\u{FFFD}: no such flag. --help says more\n", 2);
+    assert_runs(oid(&["1.9"]).arg::<&OsStr>(input), b"", NO_NAME, "\u{FFFD}.2: not UTF-8\n", 1);
+    assert_runs(oid(&["1.9"]).arg::<&OsStr>(flag), b"", "", "-\u{FFFD}: no such flag. --help says more\n", 2);
 }
 
 /// Errors of files are printed. What is right is printed even if errors cannot be.
@@ -178,8 +178,8 @@ fn an_argument_may_be_any_octets() {
 #[test]
 fn files_may_fail() {
     let full = || File::create("/dev/full").unwrap();
-    assert_runs(oid(&["2.9"]).stdout(full()), b"", "", "oid: No space left on device (os error 28)\n", 1);
-    assert_runs(oid(&["nope", "2.9"]).stderr(full()), b"", NO_NAME, "", 1);
+    assert_runs(oid(&["1.9"]).stdout(full()), b"", "", "oid: No space left on device (os error 28)\n", 1);
+    assert_runs(oid(&["nope", "1.9"]).stderr(full()), b"", NO_NAME, "", 1);
     assert_runs(oid(&[]).stdin(File::open("/").unwrap()), b"", "", "oid: Is a directory (os error 21)\n", 1);
     let terminal = File::options().read(true).write(true).open("/dev/ptmx").unwrap();
     assert_runs(oid(&[]).stdin(terminal), b"", "", "oid: no input. --help says more\n", 2);
