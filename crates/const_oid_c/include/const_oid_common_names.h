@@ -4275,7 +4275,7 @@ CONST_OID_NODISCARD CONST_OID_INLINE const_oid_octets const_oid_common_octets(si
 }
 
 /* The indexes of the entries by a hash of their names, each in the first slot that is free from its own on. Those with
- * one name are in the order of the table, and CONST_OID_COMMON_NAMES_COUNT is in the slots that are free, as is the last. */
+ * one name are in the order of the table. In the slots that are free is CONST_OID_COMMON_NAMES_COUNT, as in the last. */
 CONST_OID_TABLE const uint16_t const_oid_common_names_by_hash[] = {
     5973, 5973, 1576, 5973, 5463, 1629, 70, 5973, 1867, 5973, 5973, 637, 5973, 5593, 5973, 5973, 4760, 82, 5973, 5973,
     3845, 5973, 5973, 1905, 3149, 740, 4566, 254, 2026, 255, 5709, 5693, 3107, 4817, 5878, 3136, 3014, 4478, 2794, 2350,
@@ -5130,17 +5130,21 @@ CONST_OID_TABLE const uint16_t const_oid_common_octets_by_hash[] = {
 /* The index of the first entry with a name or with octets, of this hash. */
 CONST_OID_INLINE size_t const_oid_internal_common_find_name(const char *name, size_t len, uint32_t hash) {
     size_t slot = const_oid_internal_slot(hash, 8212), index;
-    do index = const_oid_common_names_by_hash[slot++];
-    while (index < CONST_OID_COMMON_NAMES_COUNT && (const_oid_common_entries[index].name_len != len
-        || !const_oid_internal_is_same_name(const_oid_common_name(index), name, len)));
+    do {
+        index = const_oid_common_names_by_hash[slot++];
+    } while (index < CONST_OID_COMMON_NAMES_COUNT
+        && (const_oid_common_entries[index].name_len != len
+            || !const_oid_internal_is_same_name(const_oid_common_name(index), name, len)));
     return index;
 }
 
 CONST_OID_INLINE size_t const_oid_internal_common_find_octets(const uint8_t *octets, size_t len, uint32_t hash) {
     size_t slot = const_oid_internal_slot(hash, 8212), index;
-    do index = const_oid_common_octets_by_hash[slot++];
-    while (index < CONST_OID_COMMON_NAMES_COUNT && (const_oid_common_entries[index].len != len || len == 0
-        || CONST_OID_DIFFER(const_oid_common_octets(index).octets, octets, len)));
+    do {
+        index = const_oid_common_octets_by_hash[slot++];
+    } while (index < CONST_OID_COMMON_NAMES_COUNT
+        && (const_oid_common_entries[index].len != len || len == 0
+            || CONST_OID_DIFFER(const_oid_common_octets(index).octets, octets, len)));
     return index;
 }
 
@@ -5151,8 +5155,8 @@ CONST_OID_NODISCARD CONST_OID_NONNULL(1) CONST_OID_INLINE size_t const_oid_commo
     return const_oid_internal_common_find_name(name, len, const_oid_internal_name_hash(name, len));
 }
 
-/* The index of the first entry of an identifier, of its contents octets. CONST_OID_COMMON_NAMES_COUNT if there is none, as for
- * invalid octets. */
+/* The index of the first entry of an identifier, of its contents octets.
+ * CONST_OID_COMMON_NAMES_COUNT if there is none, as for invalid octets. */
 CONST_OID_NODISCARD CONST_OID_READS(1, 2) CONST_OID_INLINE size_t const_oid_common_name_of(
     const uint8_t *octets, size_t len) {
     return const_oid_internal_common_find_octets(octets, len, const_oid_internal_hash(octets, len, 0));
@@ -5165,7 +5169,8 @@ CONST_OID_NODISCARD CONST_OID_READS(1, 2) CONST_OID_INLINE const_oid_octets cons
     const const_oid_octets none = {CONST_OID_NULL, 0};
     const uint32_t hash = const_oid_internal_name_hash(name, len);
     size_t index = const_oid_internal_find_name(name, len, hash);
-    if (index < CONST_OID_NAMES_COUNT) return const_oid_name_octets[index];
+    if (index < CONST_OID_NAMES_COUNT)
+        return const_oid_name_octets[index];
     index = const_oid_internal_common_find_name(name, len, hash);
     return index < CONST_OID_COMMON_NAMES_COUNT ? const_oid_common_octets(index) : none;
 }
@@ -5180,7 +5185,8 @@ CONST_OID_NODISCARD CONST_OID_READS(1, 2) CONST_OID_INLINE const char *const_oid
     const uint8_t *octets, size_t len) {
     const uint32_t hash = const_oid_internal_hash(octets, len, 0);
     size_t index = const_oid_internal_find_octets(octets, len, hash);
-    if (index < CONST_OID_NAMES_COUNT) return const_oid_names[index];
+    if (index < CONST_OID_NAMES_COUNT)
+        return const_oid_names[index];
     index = const_oid_internal_common_find_octets(octets, len, hash);
     return index < CONST_OID_COMMON_NAMES_COUNT ? const_oid_common_name(index) : CONST_OID_NULL;
 }
@@ -5190,10 +5196,12 @@ CONST_OID_NODISCARD CONST_OID_READS(1, 2) CONST_OID_INLINE const char *const_oid
 CONST_OID_INLINE const_oid_octets const_oid_internal_longest_name(const char *text, size_t len, size_t *end) {
     const_oid_octets name = {CONST_OID_NULL, 0};
     *end = len < 256 ? len + 1 : 256;
-    if (len > 0 && text[0] >= '0' && text[0] <= '9') return name;
+    if (len > 0 && text[0] >= '0' && text[0] <= '9')
+        return name;
     while (name.len == 0 && *end > 0) {
         --*end;
-        if (*end == len || text[*end] == '.') name = const_oid_from_part(text, *end);
+        if (*end == len || text[*end] == '.')
+            name = const_oid_from_part(text, *end);
     }
     return name;
 }
@@ -5214,7 +5222,8 @@ CONST_OID_NODISCARD CONST_OID_READS(1, 2) CONST_OID_WRITES(3, 4) CONST_OID_INLIN
     const char *const bare = range.start > 0 ? text + range.start : text; /* null has no offset */
     size_t end;
     const const_oid_octets name = const_oid_internal_longest_name(bare, len, &end);
-    if (name.len == 0) return const_oid_from_text(bare, len, out, out_len);
+    if (name.len == 0)
+        return const_oid_from_text(bare, len, out, out_len);
     return const_oid_from_text_below(name.octets, name.len, bare + end, len - end, out, out_len);
 }
 

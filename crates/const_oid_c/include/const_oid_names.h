@@ -2884,8 +2884,10 @@ CONST_OID_INLINE uint32_t const_oid_internal_hash(const uint8_t *bytes, size_t l
     size_t i;
     for (i = 0; i + 4 < len; i += 4)
         hash = (hash ^ (const_oid_internal_word(bytes + i) | bits)) * factor & 0xFFFFFFFFu;
-    if (len >= 4) word = const_oid_internal_word(bytes + len - 4);
-    else for (i = len; i > 0; i--) word = word << 8 | bytes[i - 1];
+    if (len >= 4)
+        word = const_oid_internal_word(bytes + len - 4);
+    for (i = len < 4 ? len : 0; i > 0; i--)
+        word = word << 8 | bytes[i - 1];
     return (hash ^ (word | bits)) * factor & 0xFFFFFFFFu;
 }
 
@@ -2898,9 +2900,11 @@ CONST_OID_INLINE size_t const_oid_internal_slot(uint32_t hash, uint32_t slots) {
 CONST_OID_INLINE size_t const_oid_internal_name_len(const char *name) {
     size_t len = 0;
 #ifdef __GNUC__ /* Of a literal the compiler knows it. */
-    if (__builtin_constant_p(__builtin_strlen(name))) return __builtin_strlen(name);
+    if (__builtin_constant_p(__builtin_strlen(name)))
+        return __builtin_strlen(name);
 #endif
-    while (name[len] != 0 && name[len + 1] != 0) len += 2;
+    while (name[len] != 0 && name[len + 1] != 0)
+        len += 2;
     return len + (name[len] != 0);
 }
 
@@ -2917,13 +2921,15 @@ CONST_OID_INLINE int const_oid_internal_are_cases(char left, char right) {
 CONST_OID_INLINE int const_oid_internal_is_same_name(const char *left, const char *right, size_t len) {
     const uint8_t *a = CONST_OID_BYTES(left), *b = CONST_OID_BYTES(right);
     size_t i = 0;
-    while (i + 4 <= len && const_oid_internal_word(a + i) == const_oid_internal_word(b + i)) i += 4;
-    while (i < len && (left[i] == right[i] || const_oid_internal_are_cases(left[i], right[i]))) i++;
+    while (i + 4 <= len && const_oid_internal_word(a + i) == const_oid_internal_word(b + i))
+        i += 4;
+    while (i < len && (left[i] == right[i] || const_oid_internal_are_cases(left[i], right[i])))
+        i++;
     return i == len;
 }
 
 /* The indexes of the entries by a hash of their names, each in the first slot that is free from its own on. Those with
- * one name are in the order of the table, and CONST_OID_NAMES_COUNT is in the slots that are free, as is the last. */
+ * one name are in the order of the table. In the slots that are free is CONST_OID_NAMES_COUNT, as in the last. */
 CONST_OID_TABLE const uint16_t const_oid_names_by_hash[] = {
     1492, 1492, 1492, 1492, 177, 728, 459, 465, 1492, 393, 1492, 1492, 1492, 1163, 643, 139, 934, 935, 802, 1473, 1169,
     823, 824, 216, 1411, 910, 9, 113, 550, 669, 1108, 581, 977, 101, 432, 825, 1484, 81, 31, 1277, 539, 585, 742, 1366,
@@ -3130,17 +3136,21 @@ CONST_OID_TABLE const uint16_t const_oid_octets_by_hash[] = {
 /* The index of the first entry with a name or with octets, of this hash. */
 CONST_OID_INLINE size_t const_oid_internal_find_name(const char *name, size_t len, uint32_t hash) {
     size_t slot = const_oid_internal_slot(hash, 2051), index;
-    do index = const_oid_names_by_hash[slot++];
-    while (index < CONST_OID_NAMES_COUNT && (const_oid_name_lens[index] != len
-        || !const_oid_internal_is_same_name(const_oid_names[index], name, len)));
+    do {
+        index = const_oid_names_by_hash[slot++];
+    } while (index < CONST_OID_NAMES_COUNT
+        && (const_oid_name_lens[index] != len
+            || !const_oid_internal_is_same_name(const_oid_names[index], name, len)));
     return index;
 }
 
 CONST_OID_INLINE size_t const_oid_internal_find_octets(const uint8_t *octets, size_t len, uint32_t hash) {
     size_t slot = const_oid_internal_slot(hash, 2051), index;
-    do index = const_oid_octets_by_hash[slot++];
-    while (index < CONST_OID_NAMES_COUNT && (const_oid_name_octets[index].len != len || len == 0
-        || CONST_OID_DIFFER(const_oid_name_octets[index].octets, octets, len)));
+    do {
+        index = const_oid_octets_by_hash[slot++];
+    } while (index < CONST_OID_NAMES_COUNT
+        && (const_oid_name_octets[index].len != len || len == 0
+            || CONST_OID_DIFFER(const_oid_name_octets[index].octets, octets, len)));
     return index;
 }
 
@@ -3151,8 +3161,8 @@ CONST_OID_NODISCARD CONST_OID_NONNULL(1) CONST_OID_INLINE size_t const_oid_by_na
     return const_oid_internal_find_name(name, len, const_oid_internal_name_hash(name, len));
 }
 
-/* The index of the first entry of an identifier, of its contents octets. CONST_OID_NAMES_COUNT if there is none, as for
- * invalid octets. */
+/* The index of the first entry of an identifier, of its contents octets.
+ * CONST_OID_NAMES_COUNT if there is none, as for invalid octets. */
 CONST_OID_NODISCARD CONST_OID_READS(1, 2) CONST_OID_INLINE size_t const_oid_name_of(
     const uint8_t *octets, size_t len) {
     return const_oid_internal_find_octets(octets, len, const_oid_internal_hash(octets, len, 0));

@@ -56,7 +56,8 @@ CONST_OID_NODISCARD CONST_OID_READS(1, 2) CONST_OID_INLINE const_oid_octets cons
     const const_oid_octets none = {CONST_OID_NULL, 0};
     const uint32_t hash = const_oid_internal_name_hash(name, len);
     size_t index = const_oid_internal_find_name(name, len, hash);
-    if (index < CONST_OID_NAMES_COUNT) return const_oid_name_octets[index];
+    if (index < CONST_OID_NAMES_COUNT)
+        return const_oid_name_octets[index];
     index = const_oid_internal_common_find_name(name, len, hash);
     return index < CONST_OID_COMMON_NAMES_COUNT ? const_oid_common_octets(index) : none;
 }
@@ -71,7 +72,8 @@ CONST_OID_NODISCARD CONST_OID_READS(1, 2) CONST_OID_INLINE const char *const_oid
     const uint8_t *octets, size_t len) {
     const uint32_t hash = const_oid_internal_hash(octets, len, 0);
     size_t index = const_oid_internal_find_octets(octets, len, hash);
-    if (index < CONST_OID_NAMES_COUNT) return const_oid_names[index];
+    if (index < CONST_OID_NAMES_COUNT)
+        return const_oid_names[index];
     index = const_oid_internal_common_find_octets(octets, len, hash);
     return index < CONST_OID_COMMON_NAMES_COUNT ? const_oid_common_name(index) : CONST_OID_NULL;
 }
@@ -81,10 +83,12 @@ CONST_OID_NODISCARD CONST_OID_READS(1, 2) CONST_OID_INLINE const char *const_oid
 CONST_OID_INLINE const_oid_octets const_oid_internal_longest_name(const char *text, size_t len, size_t *end) {
     const_oid_octets name = {CONST_OID_NULL, 0};
     *end = len < 256 ? len + 1 : 256;
-    if (len > 0 && text[0] >= '0' && text[0] <= '9') return name;
+    if (len > 0 && text[0] >= '0' && text[0] <= '9')
+        return name;
     while (name.len == 0 && *end > 0) {
         --*end;
-        if (*end == len || text[*end] == '.') name = const_oid_from_part(text, *end);
+        if (*end == len || text[*end] == '.')
+            name = const_oid_from_part(text, *end);
     }
     return name;
 }
@@ -105,7 +109,8 @@ CONST_OID_NODISCARD CONST_OID_READS(1, 2) CONST_OID_WRITES(3, 4) CONST_OID_INLIN
     const char *const bare = range.start > 0 ? text + range.start : text; /* null has no offset */
     size_t end;
     const const_oid_octets name = const_oid_internal_longest_name(bare, len, &end);
-    if (name.len == 0) return const_oid_from_text(bare, len, out, out_len);
+    if (name.len == 0)
+        return const_oid_from_text(bare, len, out, out_len);
     return const_oid_from_text_below(name.octets, name.len, bare + end, len - end, out, out_len);
 }
 

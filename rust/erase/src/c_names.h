@@ -79,8 +79,10 @@ CONST_OID_INLINE uint32_t const_oid_internal_hash(const uint8_t *bytes, size_t l
     size_t i;
     for (i = 0; i + 4 < len; i += 4)
         hash = (hash ^ (const_oid_internal_word(bytes + i) | bits)) * factor & 0xFFFFFFFFu;
-    if (len >= 4) word = const_oid_internal_word(bytes + len - 4);
-    else for (i = len; i > 0; i--) word = word << 8 | bytes[i - 1];
+    if (len >= 4)
+        word = const_oid_internal_word(bytes + len - 4);
+    for (i = len < 4 ? len : 0; i > 0; i--)
+        word = word << 8 | bytes[i - 1];
     return (hash ^ (word | bits)) * factor & 0xFFFFFFFFu;
 }
 
@@ -93,9 +95,11 @@ CONST_OID_INLINE size_t const_oid_internal_slot(uint32_t hash, uint32_t slots) {
 CONST_OID_INLINE size_t const_oid_internal_name_len(const char *name) {
     size_t len = 0;
 #ifdef __GNUC__ /* Of a literal the compiler knows it. */
-    if (__builtin_constant_p(__builtin_strlen(name))) return __builtin_strlen(name);
+    if (__builtin_constant_p(__builtin_strlen(name)))
+        return __builtin_strlen(name);
 #endif
-    while (name[len] != 0 && name[len + 1] != 0) len += 2;
+    while (name[len] != 0 && name[len + 1] != 0)
+        len += 2;
     return len + (name[len] != 0);
 }
 
@@ -112,8 +116,10 @@ CONST_OID_INLINE int const_oid_internal_are_cases(char left, char right) {
 CONST_OID_INLINE int const_oid_internal_is_same_name(const char *left, const char *right, size_t len) {
     const uint8_t *a = CONST_OID_BYTES(left), *b = CONST_OID_BYTES(right);
     size_t i = 0;
-    while (i + 4 <= len && const_oid_internal_word(a + i) == const_oid_internal_word(b + i)) i += 4;
-    while (i < len && (left[i] == right[i] || const_oid_internal_are_cases(left[i], right[i]))) i++;
+    while (i + 4 <= len && const_oid_internal_word(a + i) == const_oid_internal_word(b + i))
+        i += 4;
+    while (i < len && (left[i] == right[i] || const_oid_internal_are_cases(left[i], right[i])))
+        i++;
     return i == len;
 }
 

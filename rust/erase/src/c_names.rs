@@ -2,16 +2,20 @@
 
 use crate::names::{Row, encoding, escaped, lines, rows};
 
-/// What finds entries in a table, here of `c_names.h`, and what it has in `c_common_names.h`.
+/// What finds entries in a table. Its marks, and what `c_names.h` and `c_common_names.h` have there.
 const SEARCHES: &str = include_str!("c_searches.h");
-const FOR_COMMON: [(&str, &str); 6] = [
-    ("@OF@", "common_"),
-    ("NAMES_COUNT", "COMMON_NAMES_COUNT"),
-    ("const_oid_names[index]", "const_oid_common_name(index)"),
-    ("const_oid_name_lens[index]", "const_oid_common_entries[index].name_len"),
-    ("const_oid_name_octets[index].len", "const_oid_common_entries[index].len"),
-    ("const_oid_name_octets[index]", "const_oid_common_octets(index)"),
+const SEARCH_MARKS: [[&str; 3]; 6] = [
+    ["@OF@", "", "common_"],
+    ["@ALL@", "CONST_OID_NAMES_COUNT", "CONST_OID_COMMON_NAMES_COUNT"],
+    ["@NAME_AT@", "const_oid_names[index]", "const_oid_common_name(index)"],
+    ["@NAME_LEN_AT@", "const_oid_name_lens[index]", "const_oid_common_entries[index].name_len"],
+    ["@OCTETS_AT@", "const_oid_name_octets[index]", "const_oid_common_octets(index)"],
+    ["@LEN_AT@", "const_oid_name_octets[index].len", "const_oid_common_entries[index].len"],
 ];
+
+fn searches(header: usize) -> String {
+    SEARCH_MARKS.iter().fold(SEARCHES.into(), |text: String, marks| text.replace(marks[0], marks[header]))
+}
 
 /// A header with marks, filled with the rows of a table. Those of an identifier or of a name stay in the order of the
 /// table. After the last entry are an empty name and no octets.
@@ -37,10 +41,9 @@ pub fn header(marked: &str, table: &str) -> String {
     let entry = |(index, name): (usize, &str)| {
         format!("{{{}, {}, {}, {}}},", names_at[index], octets_at[index], name.len(), encoded[index].len())
     };
-    let common = |text: String, (of, by): (&str, &str)| text.replace(of, by);
     let marks: [(&str, String); 13] = [
-        ("@SEARCHES@\n", SEARCHES.replace("@OF@", "")),
-        ("@COMMON_SEARCHES@\n", FOR_COMMON.into_iter().fold(SEARCHES.into(), common)),
+        ("@SEARCHES@\n", searches(1)),
+        ("@COMMON_SEARCHES@\n", searches(2)),
         ("@COUNT@", rows.len().to_string()),
         ("@CONSTANTS@", rows.iter().map(constant).collect()),
         ("@BYTES@", bytes),
