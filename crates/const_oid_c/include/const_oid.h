@@ -334,8 +334,8 @@ CONST_OID_NODISCARD CONST_OID_READS(1, 2) CONST_OID_READS(3, 4) const_oid_status
  * `const_oid_by_arcs(&left, &right) < 0`: by itself, a std::map of octets has the order of const_oid_cmp.
  *
  * The order of valid items is that of const_oid_cmp_arcs. Items are not checked, and the order is total for any items:
- * octets are cut after each octet below 0x80, and the parts are compared in lexicographic order. A longer part is
- * greater. Parts of one length are compared by their octets. Only equal octets are equal. After sorting by this order,
+ * subidentifiers, each of which ends with its first octet below 0x80, are compared in turn. A longer one is greater,
+ * and those of one length are compared by their octets. Only equal octets are equal. After sorting by this order,
  * const_oid_check_sorted accepts the list exactly if all items are valid. */
 CONST_OID_NODISCARD CONST_OID_NONNULL(1) CONST_OID_NONNULL(2) int const_oid_by_arcs(const void *one, const void *other);
 

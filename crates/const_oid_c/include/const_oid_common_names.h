@@ -19,7 +19,7 @@
 
 #define CONST_OID_COMMON_NAMES_COUNT 5973
 
-/* The octets of the entries, and their null-terminated names, in parts of at most 509. */
+/* The octets of the entries, and their null-terminated names, in literals of at most 509. */
 CONST_OID_TABLE const uint8_t const_oid_common_bytes[][512] = {
     "\x00" "\x01" "\x02" "\x02\x82\x06\x01\x0A\x07\x14" "\x03" "\x03\xA2\x31\x05\x03\x01\x09\x01"
     "\x03\xA2\x31\x05\x03\x01\x09\x03" "\x03\xA2\x31\x05\x03\x01\x09\x04" "\x03\xA2\x31\x05\x03\x01\x09\x06"
@@ -2961,7 +2961,7 @@ CONST_OID_TABLE const char const_oid_common_texts[][512] = {
     "joint-iso-ccitt.999\0" "\0"
 };
 
-/* An entry: where its name and its octets are, at 512 times the index of their part, and their lengths. */
+/* An entry: where its name and its octets are, at 512 times the index of their literal, and their lengths. */
 typedef struct const_oid_common_entry {
     uint32_t name;
     uint16_t octets;
@@ -5212,7 +5212,7 @@ CONST_OID_INLINE const_oid_octets const_oid_internal_longest_name(const char *te
  * and hyphens, and is not looked up. What begins with a digit is dotted text. Else it begins with a name that
  * const_oid_from_name finds: all of the text is tried, and then what is before each dot, from the last one on.
  *
- * Errors are those of const_oid_from_text, of the text after the prefix, with the arcs of a name in its place: of a name
+ * Errors are those of const_oid_from_text, of the text after the prefix, with the arcs of a name in its place: of one
  * that is not there, DIGIT_EXPECTED. `len` is the index of the wrong component of the text after the prefix, of which a
  * name, with its dots, is the first. */
 CONST_OID_NODISCARD CONST_OID_READS(1, 2) CONST_OID_WRITES(3, 4) CONST_OID_INLINE const_oid_status const_oid_parse(
@@ -5244,11 +5244,14 @@ CONST_OID_NODISCARD CONST_OID_READS(1, 2) CONST_OID_WRITES(3, 4) CONST_OID_INLIN
     const char *name = CONST_OID_NULL;
     char *rest;
     const_oid_status status = const_oid_check(octets, len);
-    if (status.code != CONST_OID_OK) return status;
-    while (octets[root] >= 128) root++;
+    if (status.code != CONST_OID_OK)
+        return status;
+    while (octets[root] >= 128)
+        root++;
     for (; at > root + 1; at--) {
         name = const_oid_internal_name_back(octets, at);
-        if (name) break;
+        if (name)
+            break;
     }
     used = const_oid_internal_name_len(name ? name : "");
     room = used < out_len ? out_len - used - 1 : 0;
@@ -5256,9 +5259,12 @@ CONST_OID_NODISCARD CONST_OID_READS(1, 2) CONST_OID_WRITES(3, 4) CONST_OID_INLIN
     status = name ? const_oid_to_text_below(octets, len, octets, at, rest, room)
                   : const_oid_to_text(octets, len, rest, room);
     status.len = status.len + used;
-    if (used >= out_len) status.code = CONST_OID_OUTPUT_TOO_SHORT;
-    if (status.code != CONST_OID_OK) return status;
-    for (i = 0; i < used; i++) out[i] = name[i];
+    if (used >= out_len)
+        status.code = CONST_OID_OUTPUT_TOO_SHORT;
+    if (status.code != CONST_OID_OK)
+        return status;
+    for (i = 0; i < used; i++)
+        out[i] = name[i];
     out[status.len] = 0;
     return status;
 }

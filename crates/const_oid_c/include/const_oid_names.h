@@ -44,9 +44,8 @@ extern "C++" template <size_t N> char (&const_oid_array(const uint8_t (&array)[N
     char[sizeof *("" constant "") == 1 && sizeof("" constant "") > 1 ? 1 : -1]) /* neither wide nor empty */
 
 /* CONST_OID_IS(octets, len, constant): 1 if the octets of an identifier are those of a constant, and otherwise 0, as
- * for invalid octets. It takes three arguments, so no CONST_OID_ARRAY. The last is a string literal of octets, which is
- * not checked: what equals valid octets is valid, and a text such as "2.5.4.3" gives 0. Of two inputs, or where a
- * literal may be invalid, const_oid_is_equal is right. Each argument is evaluated once. */
+ * for invalid octets. It takes three arguments, so no CONST_OID_ARRAY. The last is a string literal of valid
+ * octets: a text such as "2.5.4.3" gives 0. For two inputs, use const_oid_is_equal. Each argument is evaluated once. */
 #define CONST_OID_IS(octets, len, constant) const_oid_is_constant(octets, len, CONST_OID_OCTETS(constant))
 CONST_OID_NODISCARD CONST_OID_READS(1, 2) CONST_OID_READS(3, 4) CONST_OID_INLINE int const_oid_is_constant(
     const uint8_t *octets, size_t len, const uint8_t *constant, size_t constant_len) {
@@ -1549,7 +1548,7 @@ CONST_OID_NODISCARD CONST_OID_READS(1, 2) CONST_OID_READS(3, 4) CONST_OID_INLINE
 
 #define CONST_OID_NAMES_COUNT 1492
 
-/* The octets of the entries, in parts of at most 509. */
+/* The octets of the entries, in literals of at most 509. */
 CONST_OID_TABLE const uint8_t const_oid_name_bytes[][512] = {
     "\x09\x92\x26\x89\x93\xF2\x2C\x64\x01\x01" "\x09\x92\x26\x89\x93\xF2\x2C\x64\x01\x02"
     "\x09\x92\x26\x89\x93\xF2\x2C\x64\x01\x03" "\x09\x92\x26\x89\x93\xF2\x2C\x64\x01\x04"

@@ -120,7 +120,7 @@ fn arcs_past_39_octets(octets: &[u8], out: &mut [u32]) -> Status
     write_arcs_by(octets, &mut [0; MAX_OCTETS + 1], out)
 }
 
-/// Writes all arcs of contents octets, made in a part of the stack if it has more items than there are octets.
+/// Writes all arcs of contents octets, made in `arcs` if it has more items than there are octets.
 // erase: extern "C"
 #[tactic(auto, using(const_oid::proofs::Sets::bytes_put))]
 #[inline(never)]

@@ -84,7 +84,7 @@ pub extern "C" fn const_oid_cmp_owned(left: &[u8], right: &[u8]) -> Status
 }
 
 /// Compares two items of a list by their arcs, lexicographically, as `qsort` asks for: -1, 0 or 1. A prefix comes
-/// first. Of octets that are not valid it is the order of their parts, so it is total over any items.
+/// first. Of octets that are not valid it is the order of their subidentifiers, so it is total over any items.
 #[unsafe(no_mangle)]
 pub extern "C" fn const_oid_by_arcs(left: &Octets<'_>, right: &Octets<'_>) -> i32
     ensures parts { result ≡ order_number (parts_cmp (octets_at left.now) (octets_at right.now)) }

@@ -40,7 +40,8 @@ static int pushes(void) {
 
 int main(void) {
     static const uint8_t sys_name[] = {0x2B, 6, 1, 2, 1, 1, 5, 0}, up_time[] = {0x2B, 6, 1, 2, 1, 1, 3, 0};
-    static const uint8_t invalid[] = {0x2B, 0x80, 1}, group[] = {0x2B, 6, 1, 2, 1, 1}, long_name[MAX_NAME + 1] = {0};
+    static const uint8_t invalid[] = {0x2B, 0x80, 1}, system_oid[] = {0x2B, 6, 1, 2, 1, 1},
+                         long_name[MAX_NAME + 1] = {0};
     append(sys_name, sizeof sys_name, "router");
     append(invalid, sizeof invalid, "nothing");
     append(up_time, sizeof up_time, "4711");
@@ -49,16 +50,16 @@ int main(void) {
     /* OID contains arc with invalid base 128 encoding */
     get(up_time, sizeof up_time);
     /* 1.3.6.1.2.1.1.3.0 = 4711 */
-    get(group, sizeof group);
+    get(system_oid, sizeof system_oid);
     /* there is no such arc, parent, item or text */
     get_bulk(long_name, 1, 1);
     /* 1.3.6.1.2.1.1.3.0 = 4711 */
     insert("1.3.6.1.2.1.1.1.0", "a router");
     insert("1.3.6.1.2.1.1.\x1B", "nothing");
     /* expected digit, got '?' */
-    get_bulk(group, sizeof group, 1);
+    get_bulk(system_oid, sizeof system_oid, 1);
     /* 1.3.6.1.2.1.1.1.0 = a router */
-    get_bulk(group, sizeof group, 2);
+    get_bulk(system_oid, sizeof system_oid, 2);
     /* 1.3.6.1.2.1.1.1.0 = a router */
     /* 1.3.6.1.2.1.1.3.0 = 4711 */
     get_bulk(sys_name, sizeof sys_name, 10);

@@ -25,10 +25,10 @@ pub fn header(marked: &str, table: &str) -> String {
     sorted.sort_by(|a, b| a.1.arcs.cmp(&b.1.arcs));
     let place = |row| sorted.iter().position(|entry| entry.0 == row).unwrap();
     let encoded = Vec::from_iter(sorted.iter().map(|entry| encoding(&entry.1.arcs)).chain([Vec::new()]));
-    let (bytes, octets_at) = parts(encoded.iter().map(|octets| (escaped(octets), octets.len())));
+    let (bytes, octets_at) = literals(encoded.iter().map(|octets| (escaped(octets), octets.len())));
     let names = sorted.iter().map(|entry| entry.1.name).chain([""]);
     let (texts, names_at) =
-        parts(names.clone().map(|name| (name.escape_default().to_string() + "\\0", name.len() + 1)));
+        literals(names.clone().map(|name| (name.escape_default().to_string() + "\\0", name.len() + 1)));
     let by_name = rows.iter().enumerate().map(|(row, of)| (hash(of.name.as_bytes(), 32), place(row)));
     let by_octets = encoded.iter().take(rows.len()).enumerate().map(|(index, octets)| (hash(octets, 0), index));
     let constant = |row: &Row| {
@@ -36,7 +36,7 @@ pub fn header(marked: &str, table: &str) -> String {
         format!("#define {name} \"{}\"\n", escaped(&encoding(&row.arcs)))
     };
     let item = |(at, octets): (&usize, &Vec<u8>)| {
-        format!("{{const_oid_name_bytes[{}] + {}, {}}},", at / PART, at % PART, octets.len())
+        format!("{{const_oid_name_bytes[{}] + {}, {}}},", at / LITERAL, at % LITERAL, octets.len())
     };
     let entry = |(index, name): (usize, &str)| {
         format!("{{{}, {}, {}, {}}},", names_at[index], octets_at[index], name.len(), encoded[index].len())
@@ -59,16 +59,16 @@ pub fn header(marked: &str, table: &str) -> String {
     marks.into_iter().fold(marked.into(), |header: String, (mark, text)| header.replace(mark, &text))
 }
 
-/// The distance from one part to the next. Each has fewer bytes than a literal of C may have, and a zero.
-const PART: usize = 512;
+/// The distance from one literal to the next. Each has at most as many bytes as C guarantees, and a zero.
+const LITERAL: usize = 512;
 
-/// Literals of bytes, each with its length, in parts of at most 509 bytes, and once where they repeat. Also where each is.
-fn parts(items: impl Iterator<Item = (String, usize)>) -> (String, Vec<usize>) {
+/// Literals of bytes, each with its length, joined to at most 509, and once where they repeat. Also where each is.
+fn literals(items: impl Iterator<Item = (String, usize)>) -> (String, Vec<usize>) {
     let (mut literals, mut places, mut end) = (Vec::<String>::new(), Vec::new(), 0);
     for (literal, len) in items.map(|(literal, len)| (format!("\"{literal}\""), len)) {
         if literals.last().is_none_or(|last| last.trim_end_matches(',') != literal) {
-            if end % PART + len > 509 {
-                end = end.next_multiple_of(PART);
+            if end % LITERAL + len > 509 {
+                end = end.next_multiple_of(LITERAL);
                 literals.last_mut().unwrap().push(',');
             }
             literals.push(literal);

@@ -83,7 +83,7 @@ extern "C" fn arcs_past_39_octets(octets: &[u8], out: &mut crate::edge::Output<u
     write_arcs_by(octets, &mut [0; MAX_OCTETS + 1], out)
 }
 
-/// Writes all arcs of contents octets, made in a part of the stack if it has more items than there are octets.
+/// Writes all arcs of contents octets, made in `arcs` if it has more items than there are octets.
 #[inline(never)]
 extern "C" fn write_arcs_by(octets: &[u8], arcs: &mut [u32], out: &mut crate::edge::Output<u32>) -> Status {
     match outputs::arcs_from_bytes(octets, arcs) {

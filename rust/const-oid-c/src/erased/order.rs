@@ -56,7 +56,7 @@ pub fn const_oid_cmp_owned(left: &[u8], right: &[u8]) -> Status {
 }
 
 /// Compares two items of a list by their arcs, lexicographically, as `qsort` asks for: -1, 0 or 1. A prefix comes
-/// first. Of octets that are not valid it is the order of their parts, so it is total over any items.
+/// first. Of octets that are not valid it is the order of their subidentifiers, so it is total over any items.
 pub fn const_oid_by_arcs(left: &Octets<'_>, right: &Octets<'_>) -> i32 {
     order_number(order_by_parts(left.contents(), right.contents()))
 }
