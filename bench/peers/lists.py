@@ -5,9 +5,13 @@ sudo-ldap and 389-ds-base), simplesamlphp, net_snmp (files of libsnmp-base) or m
 rows of all but Python's that neither table has, for rust/common_names.tsv, and how many."""
 import collections, contextlib, gzip, importlib, pathlib, pkgutil, re, subprocess, sys, tempfile  # noqa: E401
 
-FILES = [pathlib.Path(__file__).parents[2] / f"rust/{name}.tsv" for name in ("names", "common_names")]
+FILES = [
+    pathlib.Path(__file__).parents[2] / f"rust/{name}.tsv" for name in ("names", "common_names")
+]
 # The rows of both tables, each a document, a constant, arcs and a name.
-TABLES = [[line.split("\t") for line in file.read_text(encoding="utf-8").splitlines()] for file in FILES]
+TABLES = [
+    [line.split("\t") for line in file.read_text(encoding="utf-8").splitlines()] for file in FILES
+]
 # What MIB files of net-snmp take from SNMPv2-SMI, which no Debian package has.
 SMI = """SNMPv2-SMI DEFINITIONS ::= BEGIN enterprises OBJECT IDENTIFIER ::= { iso 3 6 1 4 1 }
     snmpModules OBJECT IDENTIFIER ::= { iso 3 6 1 6 3 } END"""
@@ -27,6 +31,7 @@ def said(*command):
 def openssl():
     """The short and the long name of each number, as libcrypto has them for Python."""
     from _ssl import nid2obj
+
     for nid in range(1, 10_000):
         with contextlib.suppress(ValueError):
             _, short, long, arcs = nid2obj(nid)
@@ -36,30 +41,46 @@ def openssl():
 def openssl_list():
     """Names of algorithms beside arcs, those of openssl() or else the first, some with 1.2 in place of 2.16."""
     kinds = "digest cipher kdf mac signature asymcipher key-exchange kem".split()
-    text, known = said("openssl", "list", *(f"-{kind}-algorithms" for kind in kinds), "-key-managers"), set(openssl())
-    for group in dict.fromkeys(re.findall(r"{ (\d[^}]*) }", re.sub(r"\b1\.2(?=\.840\.1\.101\.)", "2.16", text))):
+    text, known = said(
+        "openssl", "list", *(f"-{kind}-algorithms" for kind in kinds), "-key-managers"
+    ), set(openssl())
+    for group in dict.fromkeys(
+        re.findall(r"{ (\d[^}]*) }", re.sub(r"\b1\.2(?=\.840\.1\.101\.)", "2.16", text))
+    ):
         arcs = [item for item in group.split(", ") if item[0].isdigit()]
-        for name in group.split(", ")[len(arcs):]:
+        for name in group.split(", ")[len(arcs) :]:
             yield name, next((one for one in arcs if (name, one) in known), arcs[0])
 
 
 def jdk():
     with tempfile.NamedTemporaryFile("w", suffix=".java") as file:
         print(JAVA, file=file, flush=True)
-        lines = said("java", "--add-exports", "java.base/sun.security.util=ALL-UNNAMED", file.name).splitlines()
-    return [(name, arcs) for arcs, *names in map(lambda line: line.split("\t"), lines) for name in filter(None, names)]
+        lines = said(
+            "java", "--add-exports", "java.base/sun.security.util=ALL-UNNAMED", file.name
+        ).splitlines()
+    return [
+        (name, arcs)
+        for arcs, *names in map(lambda line: line.split("\t"), lines)
+        for name in filter(None, names)
+    ]
 
 
 def in_schema(text):
     """Names with arcs in a schema of LDAP."""
-    for arcs, names in re.findall(r"\(\s*([\d.]+)\s+NAME\s+(\([^)]*\)|'[^']*')", re.sub("(?m)^#.*", "", text)):
+    for arcs, names in re.findall(
+        r"\(\s*([\d.]+)\s+NAME\s+(\([^)]*\)|'[^']*')", re.sub("(?m)^#.*", "", text)
+    ):
         yield from ((name, arcs) for name in re.findall("'([^']+)'", names))
 
 
 def slapd():
     """Names in schemas, but for Active Directory's, and in programs, but for experiments."""
     root = pathlib.Path("/")
-    for file in [root / "usr/sbin/slapd", *root.glob("etc/ldap/schema/*.schema"), *root.glob("usr/lib/ldap/*.so")]:
+    for file in [
+        root / "usr/sbin/slapd",
+        *root.glob("etc/ldap/schema/*.schema"),
+        *root.glob("usr/lib/ldap/*.so"),
+    ]:
         if file.name != "msuser.schema":
             found = in_schema(file.read_text(encoding="latin-1"))
             yield from (row for row in found if not row[1].startswith("1.3.6.1.4.1.4203.666."))
@@ -79,6 +100,7 @@ def simplesamlphp():
 
 def cryptography():
     from cryptography.hazmat._oid import _OID_NAMES
+
     return [(name, oid.dotted_string) for oid, name in _OID_NAMES.items()]
 
 
@@ -90,14 +112,24 @@ def modules(package):
 def asn1crypto():
     modules("asn1crypto")
     from asn1crypto.core import ObjectIdentifier
-    return [(name, arcs) for kind in ObjectIdentifier.__subclasses__() for arcs, name in (kind._map or {}).items()]
+
+    return [
+        (name, arcs)
+        for kind in ObjectIdentifier.__subclasses__()
+        for arcs, name in (kind._map or {}).items()
+    ]
 
 
 def pyasn1_modules():
     """Names of Python, in which an underscore stands for a hyphen."""
     from pyasn1.type.univ import ObjectIdentifier
+
     rows = (row for module in modules("pyasn1_modules") for row in vars(module).items())
-    return [(name.replace("_", "-"), str(oid)) for name, oid in rows if type(oid) is ObjectIdentifier and oid.isValue]
+    return [
+        (name.replace("_", "-"), str(oid))
+        for name, oid in rows
+        if type(oid) is ObjectIdentifier and oid.isValue
+    ]
 
 
 def net_snmp():
@@ -113,12 +145,26 @@ def net_snmp():
 def mibs():
     """The nodes of each MIB, of which the files are read as text, since pysnmp rejects some."""
     from pysnmp.smi import builder
+
     symbols = builder.MibBuilder().loadModules("SNMPv2-SMI").mibSymbols["SNMPv2-SMI"]
-    nodes = [(getattr(node, "name", ()), name) for name, node in symbols.items() if name[0].islower()]
-    yield from ((name, ".".join(map(str, arcs)), "SNMPv2-SMI") for arcs, name in sorted(nodes) if len(arcs) > 1)
-    folders = [pathlib.Path(importlib.import_module(name).__path__[0]) for name in ("pysnmp_mibs", "pysnmp.smi.mibs")]
+    nodes = [
+        (getattr(node, "name", ()), name) for name, node in symbols.items() if name[0].islower()
+    ]
+    yield from (
+        (name, ".".join(map(str, arcs)), "SNMPv2-SMI")
+        for arcs, name in sorted(nodes)
+        if len(arcs) > 1
+    )
+    folders = [
+        pathlib.Path(importlib.import_module(name).__path__[0])
+        for name in ("pysnmp_mibs", "pysnmp.smi.mibs")
+    ]
     for index, mib in enumerate(MIBS):
-        text = next(file.read_text(encoding="utf-8") for folder in folders for file in folder.glob(f"{mib}-MIB.py"))
+        text = next(
+            file.read_text(encoding="utf-8")
+            for folder in folders
+            for file in folder.glob(f"{mib}-MIB.py")
+        )
         for name, arcs in re.findall(r"^(\w+) = \w+\(\(([\d, ]+)\)", text, re.M):
             if index < 6 or not re.search(r"Conformance$|Compliances?\d*$|Groups?\d*$", name):
                 yield name, arcs.replace(", ", "."), f"{mib}-MIB"
@@ -127,8 +173,19 @@ def mibs():
 def missing():
     """A name stands once."""
     names, counts = {name.lower() for *_, name in sum(TABLES, [])}, collections.Counter()
-    others = {"MIBs": mibs, "OpenSSL": openssl, "openssl list": openssl_list, "slapd": slapd, "schemas": schemas}
-    for document, read in {**others, "SimpleSAMLphp": simplesamlphp, "net-snmp": net_snmp, "JDK": jdk}.items():
+    others = {
+        "MIBs": mibs,
+        "OpenSSL": openssl,
+        "openssl list": openssl_list,
+        "slapd": slapd,
+        "schemas": schemas,
+    }
+    for document, read in {
+        **others,
+        "SimpleSAMLphp": simplesamlphp,
+        "net-snmp": net_snmp,
+        "JDK": jdk,
+    }.items():
         rows = []
         try:
             rows = [(*row, document)[:3] for row in read()]
