@@ -22,6 +22,8 @@ use table::Crate;
 const TABLE: &str = "rust/names.tsv";
 const COMMON_TABLE: &str = "rust/common_names.tsv";
 const PAGE: &str = "docs/NAMES.md";
+/// What stands before the list at the end of the page.
+const LIST: &str = "<!-- rust/erase writes the list -->\n";
 const FOR_C: &str = "crates/const_oid_c/src";
 const C_NAMES: &str = include_str!("c_names.h");
 const C_COMMON_NAMES: &str = include_str!("c_common_names.h");
@@ -92,6 +94,7 @@ fn generated() -> Result<Vec<File>> {
     }
     let table = read(TABLE)?;
     let common = read(COMMON_TABLE)?;
+    let page = read(PAGE)?.split_inclusive(LIST).take(1).collect::<String>() + &names::neighbours([&table, &common]);
     files.extend([
         file("rust/const-oid/src/db/names.rs", TABLE, &names::modules(&table)),
         file("rust/const-oid/src/db/common.rs", COMMON_TABLE, &names::common(&common)),
@@ -103,7 +106,7 @@ fn generated() -> Result<Vec<File>> {
         ),
         file("rust/const-oid-c/src/exports.rs", FOR_C, &laid_out(&calls::exports(&calls))?),
         file("crates/const_oid_c/tests/calls.h", FOR_C, &calls::list(&calls)),
-        (PAGE.into(), Some(with_list(&read(PAGE)?, &names::neighbours([&table, &common]))?)),
+        (PAGE.into(), Some(page)),
     ]);
     Ok(files.into_iter().collect())
 }
@@ -127,14 +130,6 @@ fn modules(table: &Crate) -> Result<Vec<File>> {
     let edits = table.edits.iter().zip(places);
     let faults: Vec<String> = edits.filter_map(|(edit, places)| edit::fault_of(edit, places, table.from)).collect();
     if faults.is_empty() { Ok(files) } else { Err(faults.join("\n")) }
-}
-
-/// A page with a list between two comments.
-fn with_list(page: &str, list: &str) -> Result<String> {
-    let marks = ["<!-- written by rust/erase -->\n", "<!-- end -->"];
-    let parts = page.split_once(marks[0]).and_then(|(start, rest)| Some((start, rest.split_once(marks[1])?.1)));
-    let (start, end) = parts.ok_or("the page has no comments around a list")?;
-    Ok([start, marks[0], list, marks[1], end].concat())
 }
 
 /// A generated file, in Rust or in C.
