@@ -174,12 +174,13 @@ static void *map(uint64_t bytes) {
     return start == MAP_FAILED ? NULL : start;
 }
 
-/* A list in which the second item is wrong, and then one item and zeros. */
+/* A list in which the second item is wrong, and the third may not be read. */
 static void see_long_list(void) {
     const size_t bytes = (cut + 1) * sizeof(const_oid_octets);
     const_oid_octets *items = map((uint64_t)cut * sizeof *items + sizeof *items);
     SEE(items != NULL, cut);
     items[0] = right_list[0];
+    items[2] = null_list[0];
     const const_oid_status checked = const_oid_check_sorted(items, cut + 1);
     SEE(checked.code == CONST_OID_EMPTY && checked.len == 1, cut);
     munmap(items, bytes);
