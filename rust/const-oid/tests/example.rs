@@ -7,26 +7,68 @@ use std::fs::File;
 use std::io::{Read, Write};
 use std::process::{Command, Stdio};
 
-const CN: &str = "2.5.4.3\n  by name: cn\n  octets: 55 04 03\n  arcs: [2, 5, 4, 3]\n  names: cn, commonName
-  common names: id-at-commonName, Common Name, X520 Common Name, common_name, id_at_commonName\n";
-const UP_TIME: &str = "1.3.6.1.2.1.1.3\n  by name: sysUpTime\n  octets: 2B 06 01 02 01 01 03
-  arcs: [1, 3, 6, 1, 2, 1, 1, 3]\n  common names: sysUpTime\n";
-const C3: &str = "2.5.4.98\n  by name: c3\n  octets: 55 04 62\n  arcs: [2, 5, 4, 98]
-  common names: c3, countryCode3c\n";
-const DSA: &str = "2.5.6.13\n  by name: dSA\n  octets: 55 06 0D\n  arcs: [2, 5, 6, 13]
-  names: dSA\n  elsewhere, DSA: 1.2.840.10040.4.1\n";
-const SIGNING: &str = "2.23.140.1.4.1\n  by name: code-signing\n  octets: 67 81 0C 01 04 01
-  arcs: [2, 23, 140, 1, 4, 1]\n  common names: code-signing
-  elsewhere, codeSigning: 1.3.6.1.5.5.7.3.3\n  elsewhere, Code Signing: 1.3.6.1.5.5.7.3.3
-  elsewhere, code_signing: 1.3.6.1.5.5.7.3.3\n";
-const COUNTRIES: &str = "2.5.4.98 countryCode3c\n2.5.4.99 countryCode3n\n";
-const EXTENSIONS: &str = "2.5.29\n  by name: id-ce\n  octets: 55 1D\n  arcs: [2, 5, 29]\n  names: id-ce
-  common names: id_ce\n";
-const NO_NAME: &str = "1.9\n  by name: 1.9\n  octets: 31\n  arcs: [1, 9]\n";
-const ELEMENT: &str = "0.6.2.42.3\n  by name: 0.6.2.42.3\n  octets: 06 02 2A 03\n  arcs: [0, 6, 2, 42, 3]\n";
-const SHORT: &str = "0.6.1.42.79\n  by name: 0.6.1.42.79\n  octets: 06 01 2A 4F\n  arcs: [0, 6, 1, 42, 79]\n";
+const CN: &str = "2.5.4.3
+  by name: cn
+  octets: 55 04 03
+  arcs: [2, 5, 4, 3]
+  names: cn, commonName
+  common names: id-at-commonName, Common Name, X520 Common Name, common_name, id_at_commonName
+";
+const UP_TIME: &str = "1.3.6.1.2.1.1.3
+  by name: sysUpTime
+  octets: 2B 06 01 02 01 01 03
+  arcs: [1, 3, 6, 1, 2, 1, 1, 3]
+  common names: sysUpTime
+";
+const C3: &str = "2.5.4.98
+  by name: c3
+  octets: 55 04 62
+  arcs: [2, 5, 4, 98]
+  common names: c3, countryCode3c
+";
+const DSA: &str = "2.5.6.13
+  by name: dSA
+  octets: 55 06 0D
+  arcs: [2, 5, 6, 13]
+  names: dSA
+  elsewhere, DSA: 1.2.840.10040.4.1
+";
+const SIGNING: &str = "2.23.140.1.4.1
+  by name: code-signing
+  octets: 67 81 0C 01 04 01
+  arcs: [2, 23, 140, 1, 4, 1]
+  common names: code-signing
+  elsewhere, codeSigning: 1.3.6.1.5.5.7.3.3
+  elsewhere, Code Signing: 1.3.6.1.5.5.7.3.3
+  elsewhere, code_signing: 1.3.6.1.5.5.7.3.3
+";
+const COUNTRIES: &str = "2.5.4.98 countryCode3c
+2.5.4.99 countryCode3n
+";
+const EXTENSIONS: &str = "2.5.29
+  by name: id-ce
+  octets: 55 1D
+  arcs: [2, 5, 29]
+  names: id-ce
+  common names: id_ce
+";
+const NO_NAME: &str = "1.9
+  by name: 1.9
+  octets: 31
+  arcs: [1, 9]
+";
+const ELEMENT: &str = "0.6.2.42.3
+  by name: 0.6.2.42.3
+  octets: 06 02 2A 03
+  arcs: [0, 6, 2, 42, 3]
+";
+const SHORT: &str = "0.6.1.42.79
+  by name: 0.6.1.42.79
+  octets: 06 01 2A 4F
+  arcs: [0, 6, 1, 42, 79]
+";
 
-/// Arguments with spaces between them, what is printed, and the errors.
+/// Arguments with spaces between them, what is printed, and the error of the last one, if it has one.
 const ROWS: &[(&str, &str, &str)] = &[
     ("1.9", NO_NAME, ""),
     ("2.5.4.3", CN, ""),
@@ -35,34 +77,31 @@ const ROWS: &[(&str, &str, &str)] = &[
     ("551d", EXTENSIONS, ""),
     ("--hex 06022A03", ELEMENT, ""),
     ("06012A4F", SHORT, ""),
-    ("06022A03", "", "06022A03: a whole element? Leave out tag and length, or give --hex\n"),
-    ("0603550403", "", "0603550403: a whole element? Leave out tag and length, or give --hex\n"),
-    ("550403", "", "550403: text, or octets? For octets, give --hex\n"),
-    ("2.\x1B[31m5", "", "2.\\u{1b}[31m5: expected digit, got '\\u{1b}'\n"),
-    ("2A8001", "", "2A8001: OID contains arc with invalid base 128 encoding\n"),
-    ("2A8", "", "2A8: not octets in hexadecimal\n"),
-    ("--hex 2.5.4.3", "", "2.5.4.3: not octets in hexadecimal\n"),
-    ("--hex +2+A", "", "+2+A: not octets in hexadecimal\n"),
-    ("--hex sha256", "", "sha256: not octets in hexadecimal\n"),
-    ("sha257", "", "sha257: expected digit, got 's'. No identifier has this name\n"),
-    ("OID.sha257.1", "", "OID.sha257.1: expected digit, got 's'. No identifier has this name\n"),
-    ("IF-MIB::ifDescr.x", "", "IF-MIB::ifDescr.x: expected digit, got 'x'\n"),
-    ("OID.2.x", "", "OID.2.x: expected digit, got 'x'\n"),
+    ("06022A03", "", "a whole element? Leave out tag and length, or give --hex"),
+    ("0603550403", "", "a whole element? Leave out tag and length, or give --hex"),
+    ("550403", "", "text, or octets? For octets, give --hex"),
+    ("2.\x1B[31m5", "", "expected digit, got '\x1B'"),
+    ("2A8001", "", "OID contains arc with invalid base 128 encoding"),
+    ("2A8", "", "not octets in hexadecimal"),
+    ("--hex 2.5.4.3", "", "not octets in hexadecimal"),
+    ("--hex +2+A", "", "not octets in hexadecimal"),
+    ("--hex sha256", "", "not octets in hexadecimal"),
+    ("sha257", "", "expected digit, got 's'. No identifier has this name"),
+    ("OID.sha257.1", "", "expected digit, got 's'. No identifier has this name"),
+    ("IF-MIB::ifDescr.x", "", "expected digit, got 'x'"),
+    ("OID.2.x", "", "expected digit, got 'x'"),
     ("SYSUPTIME", UP_TIME, ""),
     ("c3", C3, ""),
     ("DSA", DSA, ""),
     ("OID.dsa", DSA, ""),
     ("code-signing", SIGNING, ""),
     ("CN", CN, ""),
-    ("3.1 2.5.4.3", CN, "3.1: OID contains out-of-range arc: 3\n"),
+    ("2.5.4.3 3.1", CN, "OID contains out-of-range arc: 3"),
     ("-- 2.5.4.3", CN, ""),
     ("2.5.4.3 --", CN, ""),
-    ("-- 2.5.4.3 --hex -- -", CN, "--hex: expected digit, got '-'\n--: expected digit, got '-'\n"),
-    (
-        "--search countrycode3 2..5 --search nope",
-        COUNTRIES,
-        "nope: no name contains it\n2..5: repeated consecutive '..' characters in OID\n",
-    ),
+    ("2.5.4.3 -- - --hex", CN, "expected digit, got '-'"),
+    ("-- 2.5.4.3 --", CN, "expected digit, got '-'"),
+    ("--search countrycode3 --search nope", COUNTRIES, "no name contains it"),
 ];
 
 /// The program, which lies beside the folder of this test.
@@ -88,6 +127,11 @@ fn assert_runs(command: &mut Command, lines: &[u8], printed: &str, errors: &str,
     assert_eq!(run(command, lines), (printed.into(), errors.into(), status), "{command:?}");
 }
 
+/// An error comes after its argument, with escapes.
+fn error_line(argument: &str, error: &str) -> String {
+    format!("{argument}: {error}").escape_debug().to_string().replace("\\'", "'")
+}
+
 /// Each row of what people type is read, and displayed, or has its error, with escapes.
 #[test]
 fn reads_what_people_type() {
@@ -95,17 +139,20 @@ fn reads_what_people_type() {
         let [input, wanted, shown] = Vec::from_iter(line.split('\t')).try_into().unwrap();
         let (printed, errors, status) = run(&mut oid(&["--", input]), b"");
         let is_read = printed.starts_with(&format!("{wanted}\n  by name: {shown}\n")) && errors.is_empty();
-        let error = format!("{}: {wanted}", input.trim_ascii()).escape_debug().to_string().replace("\\'", "'");
-        let is_wrong = errors.starts_with(&error) && printed.is_empty();
+        let is_wrong = errors.starts_with(&error_line(input.trim_ascii(), wanted)) && printed.is_empty();
         assert!(if status == 0 { is_read } else { is_wrong }, "{input}");
     }
 }
 
 #[test]
 fn prints_each_row() {
-    for (arguments, printed, errors) in ROWS {
+    for (arguments, printed, error) in ROWS {
         let arguments = Vec::from_iter(arguments.split(' '));
-        assert_runs(&mut oid(&arguments), b"", printed, errors, i32::from(!errors.is_empty()));
+        let (errors, status) = match *error {
+            "" => (String::new(), 0),
+            _ => (error_line(arguments[arguments.len() - 1], error) + "\n", 1),
+        };
+        assert_runs(&mut oid(&arguments), b"", printed, &errors, status);
     }
     assert_eq!([255, 256].map(|len| run(&mut oid(&[&"2B".repeat(len)]), b"").2), [0, 1]);
 }
