@@ -1,5 +1,5 @@
-//! What the program `oid` prints, its errors and its exit status. `cargo test` builds it, but neither with `--tests` nor
-//! with `--test`.
+//! What the program `oid` prints, its errors and its exit status. `cargo test` builds it, unless a target or a test is
+//! named: then `cargo build --example oid` does.
 #![cfg(feature = "db")]
 
 use std::ffi::OsStr;
