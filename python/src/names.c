@@ -54,8 +54,8 @@ static PyObject *names_of(PyObject *type, PyObject *oid) {
     return PyErr_Occurred() ? NULL : PyList_AsTuple(names);
 }
 
-/* Raises the error of a typed text, with what comes after its prefix. Python makes no UTF-8 of a surrogate, so the wrong
- * component is that of a text without any. */
+/* Raises the error of a typed text, with what comes after its prefix. Python makes no UTF-8 of a surrogate, so the
+ * wrong component is that of a text without any. */
 static PyObject *raise_typed(PyObject *type, const_oid_status status, PyObject *text, const char *typed, size_t len) {
     const_oid_range bare;
     size_t bare_len = const_oid_bare_text(typed, len, &bare).len;

@@ -20,7 +20,7 @@ typedef struct {
 } Code;
 
 typedef struct {
-    PyObject *key; /* an identifier, or NULL of a vacant entry */
+    PyObject *key; /* an identifier, or NULL: see is_vacant */
     union {
         PyObject *value;
         size_t next_vacant; /* of a vacant entry: the number of another one, or 0 */
@@ -28,14 +28,18 @@ typedef struct {
     Code code;
 } Entry;
 
+static inline int is_vacant(const Entry *entry) {
+    return !entry->key;
+}
+
 /* Entries with references of their own. */
 typedef struct {
     Entry *entries;
     size_t count, room;
 } Run;
 
-/* Some keys in a row. Of each part but the last, which needs none, the bound is that of set_bound, or else no code of its
- * keys is above it, and none of a later part's below. So most searches for a part read no key. */
+/* Some keys in a row. No code of a part's keys is above its bound, and none of a later part's is below it, so most
+ * searches for a part read no key. The bound of the last part is not read. */
 typedef struct {
     Code bound;
     uint32_t *indices;
@@ -102,8 +106,8 @@ static inline uint64_t word_of(const uint8_t *octets) {
     return __BYTE_ORDER__ == __ORDER_LITTLE_ENDIAN__ ? __builtin_bswap64(word) : word;
 }
 
-/* A subidentifier of several octets comes after 128 and their number, which is above all single ones. If the codes of two
- * keys differ, the keys are in their order. */
+/* A subidentifier of several octets comes after 128 and their number, which is above all single ones. If the codes of
+ * two keys differ, the keys are in their order. */
 static Code encode(const const_oid_octets *items) {
     uint8_t code[24] = {0}, *out = code; /* for 16 octets, and the numbers of up to 8 subidentifiers */
     uint8_t *number = NULL;              /* of the subidentifier that goes on, if it has several octets */
@@ -189,7 +193,7 @@ static inline int append(PyObject *self, Run *run, PyObject *key, PyObject *valu
 static void drop(Run *run) {
     for (size_t index = 0; index < run->count; index++) {
         Entry entry = run->entries[index];
-        if (!entry.key)
+        if (is_vacant(&entry))
             continue;
         Py_DecRef(entry.value);
         Py_DecRef(entry.key);
@@ -470,13 +474,15 @@ static int make_room(Tree *tree, Place *place) {
     return make_room_in(tree, place->part);
 }
 
-/* For tests: whether each part has some keys, in order, which its bound and that of the part before it are right for. */
+/* For tests: whether all keys are in order, in parts that have some and whose bounds are as Part says. */
 static int is_whole(const Tree *tree) {
     const Entry *last = NULL;
     uint32_t count = 0;
     for (Place place = {0, 0, 0}; count < tree->size; count++) {
         Entry *entry = next_entry(tree, &place);
-        if (!entry || (last && const_oid_by_arcs(items_of(last->key), items_of(entry->key)) >= 0))
+        if (!entry || place.index > tree->parts[place.part].count)
+            return 0;
+        if (last && const_oid_by_arcs(items_of(last->key), items_of(entry->key)) >= 0)
             return 0;
         if (place.part > 0 && compare_codes(tree->parts[place.part - 1].bound, code_of(entry)) > 0)
             return 0;
@@ -668,7 +674,7 @@ void table_dealloc(PyObject *self) {
 static int table_traverse(PyObject *self, visitproc visit, void *arg) {
     const Tree *tree = tree_of(self);
     for (uint32_t index = 0; index < tree->used; index++) {
-        if (!tree->entries[index].key)
+        if (is_vacant(&tree->entries[index]))
             continue;
         Py_VISIT(tree->entries[index].key);
         Py_VISIT(tree->entries[index].value);
@@ -744,8 +750,8 @@ static int read_named(PyObject *const *given, Py_ssize_t count, PyObject *names,
     return !error && PyArg_ParseTupleAndKeywords(places, keywords, format, wanted, key, value);
 }
 
-/* The first argument of a call, which has to be an identifier, or NULL with an exception. The second one, if there is one
- * to read and it is given, is put into a value. */
+/* The first argument of a call, which has to be an identifier, or NULL with an exception. The second one, if the call
+ * may have it and it is given, is put into a value. */
 INLINE PyObject *read_key(
     PyObject *self, PyObject *const *given, Py_ssize_t count, PyObject *names, const char *format, PyObject **value) {
     static char *one[] = {"oid", NULL}, *two[] = {"key", "default", NULL};
