@@ -5,6 +5,7 @@ import concurrent.futures
 import copy
 import copyreg
 import ctypes
+import functools
 import gc
 import importlib
 import inspect
@@ -742,15 +743,21 @@ class Sorted(unittest.TestCase):
         named |= dict.fromkeys(("get", "pop", "setdefault"), "key default")
         for name, words in named.items():
             table = SortedMap.fromkeys(KEYS[:2], 0)
-            call, key = getattr(table, name), KEYS[:2] if name == "fromkeys" else KEYS[1]
+            call, key = getattr(table, name), KEYS[:2] if name == "fromkeys" else KEYS[2]
             given = dict(zip(words.split(), (key, 0)))
             self.assertEqual([*given], [*inspect.signature(call).parameters])
             errors = error_of(lambda: call(**given, other=1)), error_of(call, *given.values(), 1)
             self.assertEqual([TypeError] * 2, [*map(type, errors)])
             # In errors.
             self.assertEqual(f"SortedMap.{name}", getattr(SortedMap, name).__qualname__)
-            if name != "update":
-                self.assertEqual(getattr(table.copy(), name)(*given.values()), call(**given))
+            if name == "update":
+                continue
+            values, items = [*given.values()], [*given.items()]
+            for size in range(min(len(items), 1), len(items) + 1):
+                wanted = result_of(getattr(Model(table), name), *values[:size])
+                for count in range(size + 1):
+                    call = functools.partial(getattr(SortedMap(table), name), *values[:count])
+                    self.assertEqual(wanted, result_of(lambda: call(**dict(items[count:size]))))
         self.assertEqual(["entries"], [*inspect.signature(SortedMap).parameters])
         self.assertEqual(table, SortedMap(entries=table))
 
