@@ -177,6 +177,15 @@ static void see_arcs(void) {
     SEE(const_oid_arc(OCTETS(0), arc_count).code == CONST_OID_NONE, line);
 }
 
+/* Octets are compared with themselves, at one address, if they are valid. */
+static void see_itself(uint32_t code) {
+    const const_oid_status both[] = {const_oid_eq(OCTETS(0), OCTETS(0)), const_oid_starts_with(OCTETS(0), OCTETS(0)),
+        const_oid_cmp(OCTETS(0), OCTETS(0)), const_oid_cmp_arcs(OCTETS(0), OCTETS(0))};
+    for (size_t i = 0; i < 4; i++)
+        SEE(both[i].code == code && both[i].detail == (code != CONST_OID_OK ? 0 : i < 2 ? 1 : CONST_OID_EQUAL), line);
+    SEE(const_oid_is_equal(OCTETS(0), OCTETS(0)) == (code == CONST_OID_OK), line);
+}
+
 /* Says the text of octets, and their arcs. Both lead back. */
 static void octets_row(void) {
     const const_oid_status checked = const_oid_check(OCTETS(0)), counted = const_oid_len(OCTETS(0));
@@ -187,6 +196,7 @@ static void octets_row(void) {
     const const_oid_status all = in_rooms(to_arcs, sizeof *arcs);
     SEE(checked.code == printed.code && counted.code == printed.code && all.code == printed.code, line);
     SEE(checked.len == 0 && counted.len == all.len, line);
+    see_itself(checked.code);
     if (printed.code != CONST_OID_OK)
         return;
     say(", ");
