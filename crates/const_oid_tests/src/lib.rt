@@ -8,8 +8,6 @@ mod errors;
 #[cfg(test)]
 mod formatter;
 #[cfg(test)]
-mod forms;
-#[cfg(test)]
 mod from_arcs;
 #[cfg(test)]
 mod names;

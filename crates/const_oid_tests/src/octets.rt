@@ -22,7 +22,7 @@ fn is_read<const N: usize>(octets: &[u8], error: Option<Error>) -> bool
 }
 
 /// Whether both forms return this error, or none, and each capacity.
-pub fn all_answer(octets: &[u8], error: Option<Error>) -> bool {
+fn all_answer(octets: &[u8], error: Option<Error>) -> bool {
     ObjectIdentifierRef::from_bytes(octets).err() == error
         && Oid::from_bytes(octets) == Oid::from_bytes_sized(octets)
         && is_read::<0>(octets, error)

@@ -78,7 +78,7 @@ fn prints_each_length(rt: HostRuntime) -> Result<(), Fail> {
 }
 
 /// Whether an output, which held nothing but 0xEE, begins with these bytes and goes on as before.
-pub fn is_alone(out: &[u8], bytes: &[u8]) -> bool {
+fn is_alone(out: &[u8], bytes: &[u8]) -> bool {
     out.starts_with(bytes) && out.iter().skip(bytes.len()).all(|byte| *byte == 0xEE)
 }
 

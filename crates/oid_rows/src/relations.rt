@@ -40,9 +40,17 @@ pub fn pair(call: &str, left: &[u8], right: &[u8]) -> Result<&'static str> {
         "borrowed" => Ok(word(a.cmp(&b))),
         "by_arcs" => Ok(word(a.cmp_arcs(&b))),
         "equal" => Ok(if a == b { "yes" } else { "no" }),
-        "begins" => Ok(if a.starts_with(&b) { "yes" } else { "no" }),
+        "begins" => begins(a, b),
         _ => bail!("no call {call}"),
     }
+}
+
+/// Whether an identifier begins with another, and the arcs after it are left.
+fn begins(oid: ObjectIdentifierRef<'_>, start: ObjectIdentifierRef<'_>) -> Result<&'static str> {
+    let is = oid.starts_with(&start);
+    let left = is.then_some(oid.len().saturating_sub(start.len()));
+    ensure!(oid.strip_prefix(&start).map(|arcs| arcs.count()) == left);
+    Ok(if is { "yes" } else { "no" })
 }
 
 fn word(order: Ordering) -> &'static str {
