@@ -52,7 +52,7 @@ extern "C" {
 
 /* The version of these declarations. const_oid_version() returns the version of the library. */
 #define CONST_OID_VERSION_MAJOR 1
-#define CONST_OID_VERSION_MINOR 7
+#define CONST_OID_VERSION_MINOR 8
 #define CONST_OID_VERSION_PATCH 0
 #define CONST_OID_VERSION (65536 * CONST_OID_VERSION_MAJOR + 256 * CONST_OID_VERSION_MINOR + CONST_OID_VERSION_PATCH)
 

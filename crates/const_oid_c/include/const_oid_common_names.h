@@ -3,7 +3,7 @@
  * const_oid_parse and const_oid_display, const_oid_from_name and const_oid_to_name ask that header and then this. The
  * case of ASCII letters does not matter, and blanks in a name do. So some names, such as DSA and host, lead elsewhere
  * than in OpenSSL or a MIB: const_oid_common_by_name leads there, and docs/NAMES.md lists them. The entries are in the
- * order of arcs, as there. Their tables hold no pointers. The arrays are static, some 39 octets for each entry more.
+ * order of arcs, as there. Their tables hold no pointers. The arrays are static, some 30 octets for each entry more.
  * What is here is tested, not proved. */
 #ifndef CONST_OID_COMMON_NAMES_H
 #define CONST_OID_COMMON_NAMES_H

@@ -165,12 +165,12 @@ pub(crate) fn order_number(ordering: Ordering) -> i32
 }
 
 /// 65536 times the major number, 256 times the minor one and the patch number, as `CONST_OID_VERSION`.
-const VERSION: u32 = (1 << 16) + (7 << 8);
+const VERSION: u32 = (1 << 16) + (8 << 8);
 
 /// The version of the library.
 #[unsafe(no_mangle)]
 pub extern "C" fn const_oid_version() -> u32
-    ensures { result ≡ 65536 * 1 + 256 * 7 }
+    ensures { result ≡ 65536 * 1 + 256 * 8 }
 {
     VERSION
 }

@@ -125,7 +125,7 @@ pub(crate) fn order_number(ordering: Ordering) -> i32 {
 }
 
 /// 65536 times the major number, 256 times the minor one and the patch number, as `CONST_OID_VERSION`.
-const VERSION: u32 = (1 << 16) + (7 << 8);
+const VERSION: u32 = (1 << 16) + (8 << 8);
 
 /// The version of the library.
 pub fn const_oid_version() -> u32 {
