@@ -10,7 +10,7 @@
 #define IS_OF(expression, type) std::is_same<decltype(expression), type>::value
 #else
 #define EXTERN extern
-#define IS_OF(expression, type) _Generic(expression, type : 1, default : 0)
+#define IS_OF(expression, type) __builtin_types_compatible_p(__typeof__(expression), type)
 #endif
 
 #define BYTES sizeof(size_t)

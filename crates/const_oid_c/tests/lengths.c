@@ -56,10 +56,10 @@ static size_t cut;
 static uint8_t *memory;
 
 static void must(int fact) {
-    if (!fact)
+    if (!fact) {
         fprintf(stderr, "tests: %s: argument %d, length %zu\n", called, varied_at, cut);
-    if (!fact)
         exit(1);
+    }
 }
 
 /* Writes the tag and the length of an element of DER. How many octets they are. */
@@ -92,7 +92,7 @@ static array given(enum kind kind, int index) {
     varied = kind;
     if (is_null)
         return is_null_item && kind == LIST ? (array){null_list, 1} : (array){NULL, of.len};
-    return kind == OUTPUT ? (array){memory, cut + 1} : wrong_array(kind);
+    return kind == OUTPUT ? (array){memory, cut} : wrong_array(kind);
 }
 
 /* Whether a call is made here. With null it is made in another process, which it ends. */
@@ -103,10 +103,10 @@ static int begins(const char *name) {
     if (!is_null)
         return 1;
     const pid_t child = fork();
-    if (child == 0)
+    if (child == 0) {
         setrlimit(RLIMIT_CORE, &(struct rlimit){0, 0});
-    if (child == 0)
         return 1;
+    }
     must(child > 0 && waitpid(child, &ended, 0) == child && ended != 1 << 8);
     return 0;
 }
@@ -176,14 +176,12 @@ static void *map(uint64_t bytes) {
 
 /* A list in which the second item is wrong, and the third may not be read. */
 static void see_long_list(void) {
-    const size_t bytes = (cut + 1) * sizeof(const_oid_octets);
-    const_oid_octets *items = map((uint64_t)cut * sizeof *items + sizeof *items);
-    SEE(items != NULL, cut);
+    const_oid_octets *items = (void *)memory;
     items[0] = right_list[0];
+    items[1] = (const_oid_octets){NULL, 0};
     items[2] = null_list[0];
     const const_oid_status checked = const_oid_check_sorted(items, cut + 1);
     SEE(checked.code == CONST_OID_EMPTY && checked.len == 1, cut);
-    munmap(items, bytes);
 }
 
 /* A list of equal items and then another one: some pages of a file again and again. */
@@ -215,7 +213,7 @@ static void see_searches(void) {
 }
 
 static int see_lengths(int bits) {
-    const uint64_t bytes = (UINT64_C(1) << bits) * sizeof(uint32_t) + 64;
+    const uint64_t bytes = (UINT64_C(1) << bits) * sizeof(const_oid_octets) + 64;
     memory = map(bytes);
     if (memory == NULL)
         return 0;
@@ -224,9 +222,9 @@ static int see_lengths(int bits) {
         call();
     see_long_octets();
     see_long_list();
+    munmap(memory, (size_t)bytes);
     if (bits == 32)
         see_searches();
-    munmap(memory, (size_t)bytes);
     return 1;
 }
 
