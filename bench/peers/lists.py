@@ -3,7 +3,17 @@
 openssl_list, cryptography, asn1crypto, pyasn1_modules, jdk (keytool's), slapd, schemas (of krb5-kdc-ldap, samba,
 sudo-ldap and 389-ds-base), simplesamlphp, net_snmp (files of libsnmp-base) or mibs (of python3-pysnmp4-mibs). Of missing:
 rows of all but Python's that neither table has, for rust/common_names.tsv, and how many."""
-import collections, contextlib, gzip, importlib, pathlib, pkgutil, re, subprocess, sys, tempfile  # noqa: E401
+
+import collections
+import contextlib
+import gzip
+import importlib
+import pathlib
+import pkgutil
+import re
+import subprocess
+import sys
+import tempfile
 
 FILES = [
     pathlib.Path(__file__).parents[2] / f"rust/{name}.tsv" for name in ("names", "common_names")
@@ -41,12 +51,11 @@ def openssl():
 def openssl_list():
     """Names of algorithms beside arcs, those of openssl() or else the first, some with 1.2 in place of 2.16."""
     kinds = "digest cipher kdf mac signature asymcipher key-exchange kem".split()
-    text, known = said(
-        "openssl", "list", *(f"-{kind}-algorithms" for kind in kinds), "-key-managers"
-    ), set(openssl())
-    for group in dict.fromkeys(
-        re.findall(r"{ (\d[^}]*) }", re.sub(r"\b1\.2(?=\.840\.1\.101\.)", "2.16", text))
-    ):
+    flags = (f"-{kind}-algorithms" for kind in kinds)
+    text = said("openssl", "list", *flags, "-key-managers")
+    text = re.sub(r"\b1\.2(?=\.840\.1\.101\.)", "2.16", text)
+    known = set(openssl())
+    for group in dict.fromkeys(re.findall(r"{ (\d[^}]*) }", text)):
         arcs = [item for item in group.split(", ") if item[0].isdigit()]
         for name in group.split(", ")[len(arcs) :]:
             yield name, next((one for one in arcs if (name, one) in known), arcs[0])
@@ -166,7 +175,8 @@ def mibs():
             for file in folder.glob(f"{mib}-MIB.py")
         )
         for name, arcs in re.findall(r"^(\w+) = \w+\(\(([\d, ]+)\)", text, re.M):
-            if index < 6 or not re.search(r"Conformance$|Compliances?\d*$|Groups?\d*$", name):
+            is_group = re.search(r"Conformance$|Compliances?\d*$|(?<!prtAlert)Groups?\d*$", name)
+            if index < 6 or not is_group:
                 yield name, arcs.replace(", ", "."), f"{mib}-MIB"
 
 

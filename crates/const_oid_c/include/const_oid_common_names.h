@@ -17,7 +17,7 @@
 #define CONST_OID_NULL NULL
 #endif
 
-#define CONST_OID_COMMON_NAMES_COUNT 5972
+#define CONST_OID_COMMON_NAMES_COUNT 5991
 
 /* The octets of the entries, and their null-terminated names, in literals of at most 509. */
 CONST_OID_TABLE const uint8_t const_oid_common_bytes[][512] = {
@@ -33,17 +33,17 @@ CONST_OID_TABLE const uint8_t const_oid_common_bytes[][512] = {
     "\x04\x00\x8D\x45\x02\x04" "\x04\x00\x8D\x45\x02\x05" "\x04\x00\x8E\x46" "\x04\x00\x8E\x46\x01"
     "\x04\x00\x8E\x46\x01\x01" "\x04\x00\x8E\x46\x01\x02" "\x04\x00\x8E\x46\x01\x03" "\x04\x00\x8E\x46\x01\x04"
     "\x04\x00\x8E\x46\x01\x05" "\x04\x00\x8E\x46\x01\x06" "\x04\x00\x8E\x46\x01\x06\x01" "\x04\x00\x8E\x46\x01\x06\x02"
-    "\x04\x00\x8E\x46\x01\x06\x03" "\x04\x00\x8E\x46\x01\x07" "\x04\x00\x8F\x7A\x01\x02" "\x04\x00\x8F\x7A\x01\x04"
-    "\x04\x00\x8F\x7A\x01\x06" "\x04\x00\x8F\x7A\x01\x07" "\x04\x00\x81\x95\x32" "\x04\x00\x81\x95\x32\x01"
-    "\x04\x00\x81\x95\x32\x01\x01" "\x04\x00\x81\x95\x32\x01\x03" "\x04\x00\x81\x95\x32\x01\x04"
-    "\x04\x00\x81\x95\x32\x01\x05" "\x04\x00\x81\x95\x32\x01\x06" "\x04\x00\x81\x98\x27\x01\x01"
-    "\x04\x00\x81\x98\x27\x01\x02" "\x04\x00\x81\x98\x27\x01\x03" "\x04\x00\x81\x98\x27\x01\x04"
-    "\x04\x00\x81\x98\x27\x02" "\x04\x00\x81\x98\x27\x03\x01" "\x04\x00\x8B\xEC\x40\x01\x00"
-    "\x04\x00\x8B\xEC\x40\x01\x01" "\x04\x00\x8B\xEC\x40\x01\x02" "\x04\x00\x8B\xEC\x40\x01\x03"
-    "\x04\x00\x8B\xEC\x40\x01\x04" "\x04\x00\x8B\xEC\x40\x01\x05" "\x04\x00\x8B\xEC\x49\x01\x01"
-    "\x04\x00\x8B\xEC\x49\x01\x02" "\x04\x00\x8B\xEC\x49\x01\x03" "\x04\x00\x8B\xEC\x49\x01\x04"
-    "\x04\x00\x8B\xEC\x49\x02\x01" "\x05" "\x09" "\x09\x92\x26" "\x09\x92\x26\x89\x93\xF2\x2C"
-    "\x09\x92\x26\x89\x93\xF2\x2C\x64", "\x09\x92\x26\x89\x93\xF2\x2C\x64\x01"
+    "\x04\x00\x8E\x46\x01\x06\x03" "\x04\x00\x8E\x46\x01\x07" "\x04\x00\x8F\x7A\x01\x01" "\x04\x00\x8F\x7A\x01\x02"
+    "\x04\x00\x8F\x7A\x01\x03" "\x04\x00\x8F\x7A\x01\x04" "\x04\x00\x8F\x7A\x01\x06" "\x04\x00\x8F\x7A\x01\x07"
+    "\x04\x00\x81\x95\x32" "\x04\x00\x81\x95\x32\x01" "\x04\x00\x81\x95\x32\x01\x01" "\x04\x00\x81\x95\x32\x01\x03"
+    "\x04\x00\x81\x95\x32\x01\x04" "\x04\x00\x81\x95\x32\x01\x05" "\x04\x00\x81\x95\x32\x01\x06"
+    "\x04\x00\x81\x98\x27\x01\x01" "\x04\x00\x81\x98\x27\x01\x02" "\x04\x00\x81\x98\x27\x01\x03"
+    "\x04\x00\x81\x98\x27\x01\x04" "\x04\x00\x81\x98\x27\x02" "\x04\x00\x81\x98\x27\x03\x01"
+    "\x04\x00\x8B\xEC\x40\x01\x00" "\x04\x00\x8B\xEC\x40\x01\x01" "\x04\x00\x8B\xEC\x40\x01\x02"
+    "\x04\x00\x8B\xEC\x40\x01\x03" "\x04\x00\x8B\xEC\x40\x01\x04" "\x04\x00\x8B\xEC\x40\x01\x05"
+    "\x04\x00\x8B\xEC\x49\x01\x01" "\x04\x00\x8B\xEC\x49\x01\x02" "\x04\x00\x8B\xEC\x49\x01\x03"
+    "\x04\x00\x8B\xEC\x49\x01\x04" "\x04\x00\x8B\xEC\x49\x02\x01" "\x05" "\x09" "\x09\x92\x26"
+    "\x09\x92\x26\x89\x93\xF2\x2C", "\x09\x92\x26\x89\x93\xF2\x2C\x64" "\x09\x92\x26\x89\x93\xF2\x2C\x64\x01"
     "\x09\x92\x26\x89\x93\xF2\x2C\x64\x01\x01" "\x09\x92\x26\x89\x93\xF2\x2C\x64\x01\x14"
     "\x09\x92\x26\x89\x93\xF2\x2C\x64\x01\x19" "\x09\x92\x26\x89\x93\xF2\x2C\x64\x01\x1B"
     "\x09\x92\x26\x89\x93\xF2\x2C\x64\x01\x2C" "\x09\x92\x26\x89\x93\xF2\x2C\x64\x03"
@@ -65,7 +65,7 @@ CONST_OID_TABLE const uint8_t const_oid_common_bytes[][512] = {
     "\x28\xC4\x62\x01\x01\x02\x01\x03\x07\x01" "\x28\xC4\x62\x01\x01\x02\x01\x03\x07\x01\x01"
     "\x28\xC4\x62\x01\x01\x02\x01\x03\x07\x01\x02" "\x28\xC4\x62\x01\x01\x02\x01\x03\x07\x01\x03"
     "\x28\xC4\x62\x01\x01\x02\x01\x03\x07\x01\x04" "\x28\xC4\x62\x01\x01\x02\x01\x03\x08"
-    "\x28\xC4\x62\x01\x01\x02\x01\x03\x08\x01" "\x28\xC4\x62\x01\x01\x02\x01\x03\x08\x01\x01",
+    "\x28\xC4\x62\x01\x01\x02\x01\x03\x08\x01", "\x28\xC4\x62\x01\x01\x02\x01\x03\x08\x01\x01"
     "\x28\xC4\x62\x01\x01\x02\x01\x03\x08\x01\x02" "\x28\xC4\x62\x01\x01\x02\x01\x03\x08\x01\x03"
     "\x28\xC4\x62\x01\x01\x02\x01\x03\x08\x01\x04" "\x28\xC4\x62\x01\x01\x02\x01\x03\x08\x01\x05"
     "\x28\xC4\x62\x01\x01\x02\x01\x03\x08\x01\x06" "\x28\xC4\x62\x01\x01\x02\x01\x04"
@@ -88,7 +88,7 @@ CONST_OID_TABLE const uint8_t const_oid_common_bytes[][512] = {
     "\x2A\x81\x1C\xCF\x55\x01\x82\x2D" "\x2A\x81\x1C\xCF\x55\x01\x82\x2D\x65" "\x2A\x81\x1C\xCF\x55\x01\x83\x11"
     "\x2A\x81\x1C\xCF\x55\x01\x83\x11\x03\x01" "\x2A\x81\x1C\xCF\x55\x01\x83\x75" "\x2A\x81\x1C\xCF\x55\x01\x83\x78"
     "\x2A\x81\x7A\x01\x81\x5F\x65\x82\x00\x01" "\x2A\x83\x08\x8C\x9A\x4B\x3D\x01\x01\x01\x02"
-    "\x2A\x83\x08\x8C\x9A\x4B\x3D\x01\x01\x01\x03" "\x2A\x83\x08\x8C\x9A\x4B\x3D\x01\x01\x01\x04",
+    "\x2A\x83\x08\x8C\x9A\x4B\x3D\x01\x01\x01\x03", "\x2A\x83\x08\x8C\x9A\x4B\x3D\x01\x01\x01\x04"
     "\x2A\x83\x08\x8C\x9A\x4B\x3D\x01\x01\x03\x02" "\x2A\x83\x08\x8C\x9A\x4B\x3D\x01\x01\x03\x03"
     "\x2A\x83\x08\x8C\x9A\x4B\x3D\x01\x01\x03\x04" "\x2A\x83\x1A\x8C\x9A\x44" "\x2A\x83\x1A\x8C\x9A\x44\x01\x03"
     "\x2A\x83\x1A\x8C\x9A\x44\x01\x04" "\x2A\x83\x1A\x8C\x9A\x44\x01\x05" "\x2A\x83\x1A\x8C\x9A\x44\x01\x06"
@@ -109,8 +109,8 @@ CONST_OID_TABLE const uint8_t const_oid_common_bytes[][512] = {
     "\x2A\x85\x03\x02\x02\x1F\x06" "\x2A\x85\x03\x02\x02\x1F\x07" "\x2A\x85\x03\x02\x02\x20\x00"
     "\x2A\x85\x03\x02\x02\x20\x02" "\x2A\x85\x03\x02\x02\x20\x03" "\x2A\x85\x03\x02\x02\x20\x04"
     "\x2A\x85\x03\x02\x02\x20\x05" "\x2A\x85\x03\x02\x02\x21\x01" "\x2A\x85\x03\x02\x02\x21\x02"
-    "\x2A\x85\x03\x02\x02\x21\x03" "\x2A\x85\x03\x02\x02\x23\x00" "\x2A\x85\x03\x02\x02\x23\x01"
-    "\x2A\x85\x03\x02\x02\x23\x02", "\x2A\x85\x03\x02\x02\x23\x03" "\x2A\x85\x03\x02\x02\x24\x00"
+    "\x2A\x85\x03\x02\x02\x21\x03" "\x2A\x85\x03\x02\x02\x23\x00", "\x2A\x85\x03\x02\x02\x23\x01"
+    "\x2A\x85\x03\x02\x02\x23\x02" "\x2A\x85\x03\x02\x02\x23\x03" "\x2A\x85\x03\x02\x02\x24\x00"
     "\x2A\x85\x03\x02\x02\x24\x01" "\x2A\x85\x03\x02\x02\x62" "\x2A\x85\x03\x02\x02\x63" "\x2A\x85\x03\x02\x09"
     "\x2A\x85\x03\x02\x09\x01\x03\x03" "\x2A\x85\x03\x02\x09\x01\x03\x04" "\x2A\x85\x03\x02\x09\x01\x05\x03"
     "\x2A\x85\x03\x02\x09\x01\x05\x04" "\x2A\x85\x03\x02\x09\x01\x06\x01" "\x2A\x85\x03\x02\x09\x01\x08\x01"
@@ -130,8 +130,8 @@ CONST_OID_TABLE const uint8_t const_oid_common_bytes[][512] = {
     "\x2A\x85\x03\x07\x01\x02\x01\x02\x02" "\x2A\x85\x03\x07\x01\x02\x01\x02\x03" "\x2A\x85\x03\x07\x01\x02\x02"
     "\x2A\x85\x03\x07\x01\x02\x05" "\x2A\x85\x03\x07\x01\x02\x05\x01" "\x2A\x85\x03\x07\x01\x02\x05\x01\x01"
     "\x2A\x85\x03\x64\x01" "\x2A\x85\x03\x64\x03" "\x2A\x85\x03\x64\x05" "\x2A\x85\x03\x64\x6F" "\x2A\x85\x03\x64\x70"
-    "\x2A\x85\x03\x64\x71" "\x2A\x85\x03\x64\x71\x01" "\x2A\x85\x03\x64\x71\x02" "\x2A\x85\x03\x64\x71\x03"
-    "\x2A\x85\x03\x64\x71\x04", "\x2A\x85\x03\x64\x71\x05" "\x2A\x85\x03\x64\x71\x06" "\x2A\x85\x70\x81\x42\x0A\x02\x01"
+    "\x2A\x85\x03\x64\x71" "\x2A\x85\x03\x64\x71\x01" "\x2A\x85\x03\x64\x71\x02", "\x2A\x85\x03\x64\x71\x03"
+    "\x2A\x85\x03\x64\x71\x04" "\x2A\x85\x03\x64\x71\x05" "\x2A\x85\x03\x64\x71\x06" "\x2A\x85\x70\x81\x42\x0A\x02\x01"
     "\x2A\x85\x70\x81\x42\x0A\x02\x02" "\x2A\x85\x70\x81\x42\x0A\x02\x04" "\x2A\x85\x70\x81\x42\x0A\x03"
     "\x2A\x85\x70\x81\x49" "\x2A\x85\x70\x81\x49\x05" "\x2A\x85\x70\x81\x49\x05\x01" "\x2A\x86\x24"
     "\x2A\x86\x24\x02\x01\x01\x01" "\x2A\x86\x24\x02\x01\x01\x01\x01\x01\x01"
@@ -151,8 +151,8 @@ CONST_OID_TABLE const uint8_t const_oid_common_bytes[][512] = {
     "\x2A\x86\x48\xCE\x3D\x01\x02\x03\x03" "\x2A\x86\x48\xCE\x3D\x02" "\x2A\x86\x48\xCE\x3D\x02\x01"
     "\x2A\x86\x48\xCE\x3D\x03\x00" "\x2A\x86\x48\xCE\x3D\x03\x00\x01" "\x2A\x86\x48\xCE\x3D\x03\x00\x02"
     "\x2A\x86\x48\xCE\x3D\x03\x00\x03" "\x2A\x86\x48\xCE\x3D\x03\x00\x04" "\x2A\x86\x48\xCE\x3D\x03\x00\x05"
-    "\x2A\x86\x48\xCE\x3D\x03\x00\x06" "\x2A\x86\x48\xCE\x3D\x03\x00\x07" "\x2A\x86\x48\xCE\x3D\x03\x00\x08"
-    "\x2A\x86\x48\xCE\x3D\x03\x00\x09" "\x2A\x86\x48\xCE\x3D\x03\x00\x0A", "\x2A\x86\x48\xCE\x3D\x03\x00\x0B"
+    "\x2A\x86\x48\xCE\x3D\x03\x00\x06" "\x2A\x86\x48\xCE\x3D\x03\x00\x07" "\x2A\x86\x48\xCE\x3D\x03\x00\x08",
+    "\x2A\x86\x48\xCE\x3D\x03\x00\x09" "\x2A\x86\x48\xCE\x3D\x03\x00\x0A" "\x2A\x86\x48\xCE\x3D\x03\x00\x0B"
     "\x2A\x86\x48\xCE\x3D\x03\x00\x0C" "\x2A\x86\x48\xCE\x3D\x03\x00\x0D" "\x2A\x86\x48\xCE\x3D\x03\x00\x0E"
     "\x2A\x86\x48\xCE\x3D\x03\x00\x0F" "\x2A\x86\x48\xCE\x3D\x03\x00\x10" "\x2A\x86\x48\xCE\x3D\x03\x00\x11"
     "\x2A\x86\x48\xCE\x3D\x03\x00\x12" "\x2A\x86\x48\xCE\x3D\x03\x00\x13" "\x2A\x86\x48\xCE\x3D\x03\x00\x14"
@@ -172,16 +172,16 @@ CONST_OID_TABLE const uint8_t const_oid_common_bytes[][512] = {
     "\x2A\x86\x48\x86\xF7\x0D\x01\x01\x0D" "\x2A\x86\x48\x86\xF7\x0D\x01\x01\x0E" "\x2A\x86\x48\x86\xF7\x0D\x01\x01\x0F"
     "\x2A\x86\x48\x86\xF7\x0D\x01\x01\x10" "\x2A\x86\x48\x86\xF7\x0D\x01\x03" "\x2A\x86\x48\x86\xF7\x0D\x01\x03\x01"
     "\x2A\x86\x48\x86\xF7\x0D\x01\x05" "\x2A\x86\x48\x86\xF7\x0D\x01\x05\x01" "\x2A\x86\x48\x86\xF7\x0D\x01\x05\x03"
-    "\x2A\x86\x48\x86\xF7\x0D\x01\x05\x04" "\x2A\x86\x48\x86\xF7\x0D\x01\x05\x06"
-    "\x2A\x86\x48\x86\xF7\x0D\x01\x05\x0A", "\x2A\x86\x48\x86\xF7\x0D\x01\x05\x0B"
-    "\x2A\x86\x48\x86\xF7\x0D\x01\x05\x0C" "\x2A\x86\x48\x86\xF7\x0D\x01\x05\x0D" "\x2A\x86\x48\x86\xF7\x0D\x01\x05\x0E"
-    "\x2A\x86\x48\x86\xF7\x0D\x01\x07" "\x2A\x86\x48\x86\xF7\x0D\x01\x07\x01" "\x2A\x86\x48\x86\xF7\x0D\x01\x07\x02"
-    "\x2A\x86\x48\x86\xF7\x0D\x01\x07\x03" "\x2A\x86\x48\x86\xF7\x0D\x01\x07\x04" "\x2A\x86\x48\x86\xF7\x0D\x01\x07\x05"
-    "\x2A\x86\x48\x86\xF7\x0D\x01\x07\x06" "\x2A\x86\x48\x86\xF7\x0D\x01\x09" "\x2A\x86\x48\x86\xF7\x0D\x01\x09\x01"
-    "\x2A\x86\x48\x86\xF7\x0D\x01\x09\x02" "\x2A\x86\x48\x86\xF7\x0D\x01\x09\x03" "\x2A\x86\x48\x86\xF7\x0D\x01\x09\x04"
-    "\x2A\x86\x48\x86\xF7\x0D\x01\x09\x05" "\x2A\x86\x48\x86\xF7\x0D\x01\x09\x06" "\x2A\x86\x48\x86\xF7\x0D\x01\x09\x07"
-    "\x2A\x86\x48\x86\xF7\x0D\x01\x09\x08" "\x2A\x86\x48\x86\xF7\x0D\x01\x09\x09" "\x2A\x86\x48\x86\xF7\x0D\x01\x09\x0A"
-    "\x2A\x86\x48\x86\xF7\x0D\x01\x09\x0E" "\x2A\x86\x48\x86\xF7\x0D\x01\x09\x0F" "\x2A\x86\x48\x86\xF7\x0D\x01\x09\x10"
+    "\x2A\x86\x48\x86\xF7\x0D\x01\x05\x04", "\x2A\x86\x48\x86\xF7\x0D\x01\x05\x06"
+    "\x2A\x86\x48\x86\xF7\x0D\x01\x05\x0A" "\x2A\x86\x48\x86\xF7\x0D\x01\x05\x0B" "\x2A\x86\x48\x86\xF7\x0D\x01\x05\x0C"
+    "\x2A\x86\x48\x86\xF7\x0D\x01\x05\x0D" "\x2A\x86\x48\x86\xF7\x0D\x01\x05\x0E" "\x2A\x86\x48\x86\xF7\x0D\x01\x07"
+    "\x2A\x86\x48\x86\xF7\x0D\x01\x07\x01" "\x2A\x86\x48\x86\xF7\x0D\x01\x07\x02" "\x2A\x86\x48\x86\xF7\x0D\x01\x07\x03"
+    "\x2A\x86\x48\x86\xF7\x0D\x01\x07\x04" "\x2A\x86\x48\x86\xF7\x0D\x01\x07\x05" "\x2A\x86\x48\x86\xF7\x0D\x01\x07\x06"
+    "\x2A\x86\x48\x86\xF7\x0D\x01\x09" "\x2A\x86\x48\x86\xF7\x0D\x01\x09\x01" "\x2A\x86\x48\x86\xF7\x0D\x01\x09\x02"
+    "\x2A\x86\x48\x86\xF7\x0D\x01\x09\x03" "\x2A\x86\x48\x86\xF7\x0D\x01\x09\x04" "\x2A\x86\x48\x86\xF7\x0D\x01\x09\x05"
+    "\x2A\x86\x48\x86\xF7\x0D\x01\x09\x06" "\x2A\x86\x48\x86\xF7\x0D\x01\x09\x07" "\x2A\x86\x48\x86\xF7\x0D\x01\x09\x08"
+    "\x2A\x86\x48\x86\xF7\x0D\x01\x09\x09" "\x2A\x86\x48\x86\xF7\x0D\x01\x09\x0A" "\x2A\x86\x48\x86\xF7\x0D\x01\x09\x0E"
+    "\x2A\x86\x48\x86\xF7\x0D\x01\x09\x0F" "\x2A\x86\x48\x86\xF7\x0D\x01\x09\x10"
     "\x2A\x86\x48\x86\xF7\x0D\x01\x09\x10\x00" "\x2A\x86\x48\x86\xF7\x0D\x01\x09\x10\x00\x01"
     "\x2A\x86\x48\x86\xF7\x0D\x01\x09\x10\x00\x02" "\x2A\x86\x48\x86\xF7\x0D\x01\x09\x10\x00\x03"
     "\x2A\x86\x48\x86\xF7\x0D\x01\x09\x10\x00\x04" "\x2A\x86\x48\x86\xF7\x0D\x01\x09\x10\x00\x05"
@@ -193,8 +193,8 @@ CONST_OID_TABLE const uint8_t const_oid_common_bytes[][512] = {
     "\x2A\x86\x48\x86\xF7\x0D\x01\x09\x10\x01\x06" "\x2A\x86\x48\x86\xF7\x0D\x01\x09\x10\x01\x07"
     "\x2A\x86\x48\x86\xF7\x0D\x01\x09\x10\x01\x08" "\x2A\x86\x48\x86\xF7\x0D\x01\x09\x10\x01\x09"
     "\x2A\x86\x48\x86\xF7\x0D\x01\x09\x10\x01\x10" "\x2A\x86\x48\x86\xF7\x0D\x01\x09\x10\x01\x13"
-    "\x2A\x86\x48\x86\xF7\x0D\x01\x09\x10\x01\x17" "\x2A\x86\x48\x86\xF7\x0D\x01\x09\x10\x01\x18"
-    "\x2A\x86\x48\x86\xF7\x0D\x01\x09\x10\x01\x1A" "\x2A\x86\x48\x86\xF7\x0D\x01\x09\x10\x01\x1B",
+    "\x2A\x86\x48\x86\xF7\x0D\x01\x09\x10\x01\x17" "\x2A\x86\x48\x86\xF7\x0D\x01\x09\x10\x01\x18",
+    "\x2A\x86\x48\x86\xF7\x0D\x01\x09\x10\x01\x1A" "\x2A\x86\x48\x86\xF7\x0D\x01\x09\x10\x01\x1B"
     "\x2A\x86\x48\x86\xF7\x0D\x01\x09\x10\x01\x1C" "\x2A\x86\x48\x86\xF7\x0D\x01\x09\x10\x01\x1D"
     "\x2A\x86\x48\x86\xF7\x0D\x01\x09\x10\x01\x1E" "\x2A\x86\x48\x86\xF7\x0D\x01\x09\x10\x01\x1F"
     "\x2A\x86\x48\x86\xF7\x0D\x01\x09\x10\x01\x22" "\x2A\x86\x48\x86\xF7\x0D\x01\x09\x10\x01\x23"
@@ -216,8 +216,8 @@ CONST_OID_TABLE const uint8_t const_oid_common_bytes[][512] = {
     "\x2A\x86\x48\x86\xF7\x0D\x01\x09\x10\x02\x12" "\x2A\x86\x48\x86\xF7\x0D\x01\x09\x10\x02\x13"
     "\x2A\x86\x48\x86\xF7\x0D\x01\x09\x10\x02\x14" "\x2A\x86\x48\x86\xF7\x0D\x01\x09\x10\x02\x15"
     "\x2A\x86\x48\x86\xF7\x0D\x01\x09\x10\x02\x16" "\x2A\x86\x48\x86\xF7\x0D\x01\x09\x10\x02\x17"
-    "\x2A\x86\x48\x86\xF7\x0D\x01\x09\x10\x02\x18" "\x2A\x86\x48\x86\xF7\x0D\x01\x09\x10\x02\x19"
-    "\x2A\x86\x48\x86\xF7\x0D\x01\x09\x10\x02\x1A" "\x2A\x86\x48\x86\xF7\x0D\x01\x09\x10\x02\x1B",
+    "\x2A\x86\x48\x86\xF7\x0D\x01\x09\x10\x02\x18" "\x2A\x86\x48\x86\xF7\x0D\x01\x09\x10\x02\x19",
+    "\x2A\x86\x48\x86\xF7\x0D\x01\x09\x10\x02\x1A" "\x2A\x86\x48\x86\xF7\x0D\x01\x09\x10\x02\x1B"
     "\x2A\x86\x48\x86\xF7\x0D\x01\x09\x10\x02\x1C" "\x2A\x86\x48\x86\xF7\x0D\x01\x09\x10\x02\x1D"
     "\x2A\x86\x48\x86\xF7\x0D\x01\x09\x10\x02\x29" "\x2A\x86\x48\x86\xF7\x0D\x01\x09\x10\x02\x2C"
     "\x2A\x86\x48\x86\xF7\x0D\x01\x09\x10\x02\x2D" "\x2A\x86\x48\x86\xF7\x0D\x01\x09\x10\x02\x2F"
@@ -239,8 +239,8 @@ CONST_OID_TABLE const uint8_t const_oid_common_bytes[][512] = {
     "\x2A\x86\x48\x86\xF7\x0D\x01\x09\x10\x05\x02" "\x2A\x86\x48\x86\xF7\x0D\x01\x09\x10\x06"
     "\x2A\x86\x48\x86\xF7\x0D\x01\x09\x10\x06\x01" "\x2A\x86\x48\x86\xF7\x0D\x01\x09\x10\x06\x02"
     "\x2A\x86\x48\x86\xF7\x0D\x01\x09\x10\x06\x03" "\x2A\x86\x48\x86\xF7\x0D\x01\x09\x10\x06\x04"
-    "\x2A\x86\x48\x86\xF7\x0D\x01\x09\x10\x06\x05" "\x2A\x86\x48\x86\xF7\x0D\x01\x09\x10\x06\x06"
-    "\x2A\x86\x48\x86\xF7\x0D\x01\x09\x10\x0D" "\x2A\x86\x48\x86\xF7\x0D\x01\x09\x10\x0D\x03",
+    "\x2A\x86\x48\x86\xF7\x0D\x01\x09\x10\x06\x05" "\x2A\x86\x48\x86\xF7\x0D\x01\x09\x10\x06\x06",
+    "\x2A\x86\x48\x86\xF7\x0D\x01\x09\x10\x0D" "\x2A\x86\x48\x86\xF7\x0D\x01\x09\x10\x0D\x03"
     "\x2A\x86\x48\x86\xF7\x0D\x01\x09\x14" "\x2A\x86\x48\x86\xF7\x0D\x01\x09\x15"
     "\x2A\x86\x48\x86\xF7\x0D\x01\x09\x16\x01" "\x2A\x86\x48\x86\xF7\x0D\x01\x09\x16\x02"
     "\x2A\x86\x48\x86\xF7\x0D\x01\x09\x17\x01" "\x2A\x86\x48\x86\xF7\x0D\x01\x09\x34" "\x2A\x86\x48\x86\xF7\x0D\x01\x0C"
@@ -263,13 +263,13 @@ CONST_OID_TABLE const uint8_t const_oid_common_bytes[][512] = {
     "\x2A\x86\x48\x86\xF7\x12\x01\x02\x02\x07" "\x2A\x86\x48\x86\xF7\x12\x01\x04\x01\x06\x01"
     "\x2A\x86\x48\x86\xF7\x12\x01\x04\x01\x06\x02" "\x2A\x86\x48\x86\xF7\x12\x01\x04\x01\x06\x03"
     "\x2A\x86\x48\x86\xF7\x12\x01\x04\x01\x06\x04" "\x2A\x86\x48\x86\xF7\x12\x01\x04\x01\x06\x05"
-    "\x2A\x86\x48\x86\xF7\x14\x01\x02\x01" "\x2A\x86\x48\x86\xF7\x14\x01\x02\x02"
-    "\x2A\x86\x48\x86\xF7\x14\x01\x02\x03", "\x2A\x86\x48\x86\xF7\x14\x01\x02\x0E"
-    "\x2A\x86\x48\x86\xF7\x14\x01\x02\x12" "\x2A\x86\x48\x86\xF7\x14\x01\x02\x13" "\x2A\x86\x48\x86\xF7\x14\x01\x02\x15"
-    "\x2A\x86\x48\x86\xF7\x14\x01\x02\x16" "\x2A\x86\x48\x86\xF7\x14\x01\x02\x1A" "\x2A\x86\x48\x86\xF7\x14\x01\x02\x1E"
-    "\x2A\x86\x48\x86\xF7\x14\x01\x02\x20" "\x2A\x86\x48\x86\xF7\x14\x01\x02\x21" "\x2A\x86\x48\x86\xF7\x14\x01\x02\x30"
-    "\x2A\x86\x48\x86\xF7\x14\x01\x02\x36" "\x2A\x86\x48\x86\xF7\x14\x01\x02\x4C" "\x2A\x86\x48\x86\xF7\x14\x01\x02\x66"
-    "\x2A\x86\x48\x86\xF7\x14\x01\x02\x73" "\x2A\x86\x48\x86\xF7\x14\x01\x02\x76" "\x2A\x86\x48\x86\xF7\x14\x01\x02\x78"
+    "\x2A\x86\x48\x86\xF7\x14\x01\x02\x01", "\x2A\x86\x48\x86\xF7\x14\x01\x02\x02"
+    "\x2A\x86\x48\x86\xF7\x14\x01\x02\x03" "\x2A\x86\x48\x86\xF7\x14\x01\x02\x0E" "\x2A\x86\x48\x86\xF7\x14\x01\x02\x12"
+    "\x2A\x86\x48\x86\xF7\x14\x01\x02\x13" "\x2A\x86\x48\x86\xF7\x14\x01\x02\x15" "\x2A\x86\x48\x86\xF7\x14\x01\x02\x16"
+    "\x2A\x86\x48\x86\xF7\x14\x01\x02\x1A" "\x2A\x86\x48\x86\xF7\x14\x01\x02\x1E" "\x2A\x86\x48\x86\xF7\x14\x01\x02\x20"
+    "\x2A\x86\x48\x86\xF7\x14\x01\x02\x21" "\x2A\x86\x48\x86\xF7\x14\x01\x02\x30" "\x2A\x86\x48\x86\xF7\x14\x01\x02\x36"
+    "\x2A\x86\x48\x86\xF7\x14\x01\x02\x4C" "\x2A\x86\x48\x86\xF7\x14\x01\x02\x66" "\x2A\x86\x48\x86\xF7\x14\x01\x02\x73"
+    "\x2A\x86\x48\x86\xF7\x14\x01\x02\x76" "\x2A\x86\x48\x86\xF7\x14\x01\x02\x78"
     "\x2A\x86\x48\x86\xF7\x14\x01\x02\x81\x0D" "\x2A\x86\x48\x86\xF7\x14\x01\x02\x81\x12"
     "\x2A\x86\x48\x86\xF7\x14\x01\x02\x81\x29" "\x2A\x86\x48\x86\xF7\x14\x01\x02\x81\x42"
     "\x2A\x86\x48\x86\xF7\x14\x01\x02\x81\x52" "\x2A\x86\x48\x86\xF7\x14\x01\x02\x81\x54"
@@ -284,8 +284,8 @@ CONST_OID_TABLE const uint8_t const_oid_common_bytes[][512] = {
     "\x2A\x86\x48\x86\xF7\x14\x01\x04\x31" "\x2A\x86\x48\x86\xF7\x14\x01\x04\x33" "\x2A\x86\x48\x86\xF7\x14\x01\x04\x34"
     "\x2A\x86\x48\x86\xF7\x14\x01\x04\x37" "\x2A\x86\x48\x86\xF7\x14\x01\x04\x3A" "\x2A\x86\x48\x86\xF7\x14\x01\x04\x3C"
     "\x2A\x86\x48\x86\xF7\x14\x01\x04\x3D" "\x2A\x86\x48\x86\xF7\x14\x01\x04\x3E" "\x2A\x86\x48\x86\xF7\x14\x01\x04\x40"
-    "\x2A\x86\x48\x86\xF7\x14\x01\x04\x49" "\x2A\x86\x48\x86\xF7\x14\x01\x04\x4A" "\x2A\x86\x48\x86\xF7\x14\x01\x04\x4E"
-    "\x2A\x86\x48\x86\xF7\x14\x01\x04\x4F", "\x2A\x86\x48\x86\xF7\x14\x01\x04\x56"
+    "\x2A\x86\x48\x86\xF7\x14\x01\x04\x49" "\x2A\x86\x48\x86\xF7\x14\x01\x04\x4A",
+    "\x2A\x86\x48\x86\xF7\x14\x01\x04\x4E" "\x2A\x86\x48\x86\xF7\x14\x01\x04\x4F" "\x2A\x86\x48\x86\xF7\x14\x01\x04\x56"
     "\x2A\x86\x48\x86\xF7\x14\x01\x04\x57" "\x2A\x86\x48\x86\xF7\x14\x01\x04\x5A" "\x2A\x86\x48\x86\xF7\x14\x01\x04\x5D"
     "\x2A\x86\x48\x86\xF7\x14\x01\x04\x5F" "\x2A\x86\x48\x86\xF7\x14\x01\x04\x60" "\x2A\x86\x48\x86\xF7\x14\x01\x04\x62"
     "\x2A\x86\x48\x86\xF7\x14\x01\x04\x7D" "\x2A\x86\x48\x86\xF7\x14\x01\x04\x81\x04"
@@ -308,8 +308,8 @@ CONST_OID_TABLE const uint8_t const_oid_common_bytes[][512] = {
     "\x2A\x86\x48\x86\xF7\x14\x01\x04\x84\x6B" "\x2A\x86\x48\x86\xF7\x14\x01\x04\x85\x04"
     "\x2A\x86\x48\x86\xF7\x14\x01\x04\x85\x06" "\x2A\x86\x48\x86\xF7\x14\x01\x04\x85\x07"
     "\x2A\x86\x48\x86\xF7\x14\x01\x04\x85\x0C" "\x2A\x86\x48\x86\xF7\x14\x01\x04\x85\x0D"
-    "\x2A\x86\x48\x86\xF7\x14\x01\x04\x85\x0E" "\x2A\x86\x48\x86\xF7\x14\x01\x04\x85\x0F"
-    "\x2A\x86\x48\x86\xF7\x14\x01\x04\x85\x10" "\x2A\x86\x48\x86\xF7\x14\x01\x04\x85\x16",
+    "\x2A\x86\x48\x86\xF7\x14\x01\x04\x85\x0E" "\x2A\x86\x48\x86\xF7\x14\x01\x04\x85\x0F",
+    "\x2A\x86\x48\x86\xF7\x14\x01\x04\x85\x10" "\x2A\x86\x48\x86\xF7\x14\x01\x04\x85\x16"
     "\x2A\x86\x48\x86\xF7\x14\x01\x04\x85\x22" "\x2A\x86\x48\x86\xF7\x14\x01\x04\x85\x51"
     "\x2A\x86\x48\x86\xF7\x14\x01\x04\x85\x52" "\x2A\x86\x48\x86\xF7\x14\x01\x04\x85\x6D"
     "\x2A\x86\x48\x86\xF7\x14\x01\x04\x85\x6E" "\x2A\x86\x48\x86\xF7\x14\x01\x04\x86\x03"
@@ -333,8 +333,8 @@ CONST_OID_TABLE const uint8_t const_oid_common_bytes[][512] = {
     "\x2A\x86\x48\x86\xF7\x14\x01\x04\x8B\x03" "\x2A\x86\x48\x86\xF7\x14\x01\x04\x8B\x04"
     "\x2A\x86\x48\x86\xF7\x14\x01\x04\x8B\x05" "\x2A\x86\x48\x86\xF7\x14\x01\x04\x8B\x0A"
     "\x2A\x86\x48\x86\xF7\x14\x01\x04\x8B\x15" "\x2A\x86\x48\x86\xF7\x14\x01\x04\x8B\x16"
-    "\x2A\x86\x48\x86\xF7\x14\x01\x04\x8B\x18" "\x2A\x86\x48\x86\xF7\x14\x01\x04\x8B\x19"
-    "\x2A\x86\x48\x86\xF7\x14\x01\x04\x8B\x1A" "\x2A\x86\x48\x86\xF7\x14\x01\x04\x8B\x1C",
+    "\x2A\x86\x48\x86\xF7\x14\x01\x04\x8B\x18" "\x2A\x86\x48\x86\xF7\x14\x01\x04\x8B\x19",
+    "\x2A\x86\x48\x86\xF7\x14\x01\x04\x8B\x1A" "\x2A\x86\x48\x86\xF7\x14\x01\x04\x8B\x1C"
     "\x2A\x86\x48\x86\xF7\x14\x01\x04\x8B\x33" "\x2A\x86\x48\x86\xF7\x14\x01\x04\x8B\x34"
     "\x2A\x86\x48\x86\xF7\x14\x01\x04\x8D\x0A" "\x2A\x86\x48\x86\xF7\x14\x01\x04\x8D\x20"
     "\x2A\x86\x48\x86\xF7\x14\x01\x04\x8D\x2B" "\x2A\x86\x48\x86\xF7\x14\x01\x04\x8D\x35"
@@ -357,36 +357,36 @@ CONST_OID_TABLE const uint8_t const_oid_common_bytes[][512] = {
     "\x2A\x86\x48\x86\xF7\x14\x01\x06\x12\x01\x82\x35" "\x2A\x86\x48\x86\xF7\x14\x01\x06\x12\x01\x82\x53"
     "\x2A\x86\x48\x86\xF7\x14\x01\x06\x12\x01\x82\x5A" "\x2A\x86\x48\x86\xF7\x2F\x01\x01\x05"
     "\x2A\x86\x48\x86\xF7\x2F\x01\x01\x08" "\x2A\x86\x48\x86\xF7\x2F\x01\x01\x09\x01"
-    "\x2A\x86\x48\x86\xF7\x2F\x01\x01\x09\x02" "\x2A\x86\x48\x86\xF7\x2F\x01\x01\x0A"
-    "\x2A\x86\x48\x86\xF7\x63\x64\x01\x02" "\x2A\x86\x48\x86\xF7\x63\x64\x01\x03",
-    "\x2A\x86\x48\x86\xF7\x63\x64\x01\x04" "\x2A\x86\x48\x86\xF7\x63\x64\x01\x05" "\x2A\x86\x48\x86\xF7\x63\x64\x01\x06"
-    "\x2A\x86\x48\x86\xF7\x63\x64\x01\x07" "\x2A\x86\x48\x86\xF7\x63\x64\x01\x08" "\x2A\x86\x48\x86\xF7\x63\x64\x01\x09"
-    "\x2A\x86\x48\x86\xF7\x63\x64\x01\x0A" "\x2A\x86\x48\x86\xF7\x63\x64\x01\x0B" "\x2A\x86\x48\x86\xF7\x63\x64\x01\x0C"
-    "\x2A\x86\x48\x86\xF7\x63\x64\x01\x0D" "\x2A\x86\x48\x86\xF7\x63\x64\x01\x0E" "\x2A\x86\x48\x86\xF7\x63\x64\x01\x0F"
-    "\x2A\x86\x48\x86\xF7\x63\x64\x01\x10" "\x2A\x86\x48\x86\xF7\x63\x64\x01\x11" "\x2A\x86\x48\x86\xF7\x63\x64\x01\x12"
-    "\x2A\x86\x48\x86\xF7\x63\x64\x01\x14" "\x2A\x86\x48\x86\xF7\x63\x64\x01\x15" "\x2A\x86\x48\x86\xF7\x63\x64\x01\x16"
-    "\x2A\x86\x48\x86\xF7\x63\x64\x01\x17" "\x2A\x86\x48\x86\xF7\x63\x64\x01\x18" "\x2A\x86\x48\x86\xF7\x63\x64\x01\x19"
-    "\x2A\x86\x48\x86\xF7\x63\x64\x01\x1A" "\x2A\x86\x48\x86\xF7\x63\x64\x01\x1B" "\x2A\x86\x48\x86\xF7\x63\x64\x01\x1C"
-    "\x2A\x86\x48\x86\xF7\x63\x64\x01\x1D" "\x2A\x86\x48\x86\xF7\x63\x64\x01\x21" "\x2A\x86\x48\x86\xF7\x63\x64\x01\x22"
-    "\x2B" "\x2B\x05\x01\x05\x02" "\x2B\x06" "\x2B\x06\x01" "\x2B\x06\x01\x01" "\x2B\x06\x01\x01\x01\x01\x00"
-    "\x2B\x06\x01\x01\x01\x01\x01" "\x2B\x06\x01\x01\x01\x01\x02" "\x2B\x06\x01\x01\x01\x01\x03"
-    "\x2B\x06\x01\x01\x01\x01\x04" "\x2B\x06\x01\x01\x01\x01\x05" "\x2B\x06\x01\x01\x01\x01\x06"
-    "\x2B\x06\x01\x01\x01\x01\x07" "\x2B\x06\x01\x01\x01\x01\x08" "\x2B\x06\x01\x01\x01\x01\x09"
-    "\x2B\x06\x01\x01\x01\x01\x0A" "\x2B\x06\x01\x01\x01\x01\x0B" "\x2B\x06\x01\x01\x01\x01\x0C"
-    "\x2B\x06\x01\x01\x01\x01\x0D" "\x2B\x06\x01\x01\x01\x01\x0E" "\x2B\x06\x01\x01\x01\x01\x0F"
-    "\x2B\x06\x01\x01\x01\x01\x10" "\x2B\x06\x01\x01\x01\x01\x11" "\x2B\x06\x01\x01\x01\x01\x12"
-    "\x2B\x06\x01\x01\x01\x01\x13" "\x2B\x06\x01\x01\x01\x01\x14" "\x2B\x06\x01\x01\x01\x01\x15"
-    "\x2B\x06\x01\x01\x01\x01\x16" "\x2B\x06\x01\x01\x01\x01\x17" "\x2B\x06\x01\x01\x01\x01\x18"
-    "\x2B\x06\x01\x01\x01\x01\x1A" "\x2B\x06\x01\x01\x01\x01\x1B" "\x2B\x06\x01\x01\x01\x01\x1F"
-    "\x2B\x06\x01\x01\x01\x01\x20" "\x2B\x06\x01\x01\x01\x01\x21" "\x2B\x06\x01\x01\x01\x02\x00"
-    "\x2B\x06\x01\x01\x01\x02\x01" "\x2B\x06\x01\x01\x01\x02\x02" "\x2B\x06\x01\x01\x01\x02\x03"
-    "\x2B\x06\x01\x01\x01\x02\x04", "\x2B\x06\x01\x01\x01\x02\x05" "\x2B\x06\x01\x01\x01\x02\x06"
-    "\x2B\x06\x01\x01\x01\x02\x07" "\x2B\x06\x01\x01\x01\x02\x08" "\x2B\x06\x01\x01\x01\x02\x09"
-    "\x2B\x06\x01\x01\x01\x02\x0A" "\x2B\x06\x01\x01\x01\x02\x0B" "\x2B\x06\x01\x01\x01\x02\x0C"
-    "\x2B\x06\x01\x01\x01\x02\x10" "\x2B\x06\x01\x01\x01\x02\x11" "\x2B\x06\x01\x01\x04" "\x2B\x06\x01\x01\x05"
-    "\x2B\x06\x01\x01\x08" "\x2B\x06\x01\x01\x0C" "\x2B\x06\x01\x01\x0D\x01" "\x2B\x06\x01\x01\x0D\x02"
-    "\x2B\x06\x01\x01\x0E" "\x2B\x06\x01\x01\x13" "\x2B\x06\x01\x01\x15" "\x2B\x06\x01\x01\x16" "\x2B\x06\x01\x02"
-    "\x2B\x06\x01\x02\x01" "\x2B\x06\x01\x02\x01\x01" "\x2B\x06\x01\x02\x01\x01\x01" "\x2B\x06\x01\x02\x01\x01\x02"
+    "\x2A\x86\x48\x86\xF7\x2F\x01\x01\x09\x02", "\x2A\x86\x48\x86\xF7\x2F\x01\x01\x0A"
+    "\x2A\x86\x48\x86\xF7\x63\x64\x01\x02" "\x2A\x86\x48\x86\xF7\x63\x64\x01\x03" "\x2A\x86\x48\x86\xF7\x63\x64\x01\x04"
+    "\x2A\x86\x48\x86\xF7\x63\x64\x01\x05" "\x2A\x86\x48\x86\xF7\x63\x64\x01\x06" "\x2A\x86\x48\x86\xF7\x63\x64\x01\x07"
+    "\x2A\x86\x48\x86\xF7\x63\x64\x01\x08" "\x2A\x86\x48\x86\xF7\x63\x64\x01\x09" "\x2A\x86\x48\x86\xF7\x63\x64\x01\x0A"
+    "\x2A\x86\x48\x86\xF7\x63\x64\x01\x0B" "\x2A\x86\x48\x86\xF7\x63\x64\x01\x0C" "\x2A\x86\x48\x86\xF7\x63\x64\x01\x0D"
+    "\x2A\x86\x48\x86\xF7\x63\x64\x01\x0E" "\x2A\x86\x48\x86\xF7\x63\x64\x01\x0F" "\x2A\x86\x48\x86\xF7\x63\x64\x01\x10"
+    "\x2A\x86\x48\x86\xF7\x63\x64\x01\x11" "\x2A\x86\x48\x86\xF7\x63\x64\x01\x12" "\x2A\x86\x48\x86\xF7\x63\x64\x01\x14"
+    "\x2A\x86\x48\x86\xF7\x63\x64\x01\x15" "\x2A\x86\x48\x86\xF7\x63\x64\x01\x16" "\x2A\x86\x48\x86\xF7\x63\x64\x01\x17"
+    "\x2A\x86\x48\x86\xF7\x63\x64\x01\x18" "\x2A\x86\x48\x86\xF7\x63\x64\x01\x19" "\x2A\x86\x48\x86\xF7\x63\x64\x01\x1A"
+    "\x2A\x86\x48\x86\xF7\x63\x64\x01\x1B" "\x2A\x86\x48\x86\xF7\x63\x64\x01\x1C" "\x2A\x86\x48\x86\xF7\x63\x64\x01\x1D"
+    "\x2A\x86\x48\x86\xF7\x63\x64\x01\x21" "\x2A\x86\x48\x86\xF7\x63\x64\x01\x22" "\x2B" "\x2B\x05\x01\x05\x02"
+    "\x2B\x06" "\x2B\x06\x01" "\x2B\x06\x01\x01" "\x2B\x06\x01\x01\x01\x01\x00" "\x2B\x06\x01\x01\x01\x01\x01"
+    "\x2B\x06\x01\x01\x01\x01\x02" "\x2B\x06\x01\x01\x01\x01\x03" "\x2B\x06\x01\x01\x01\x01\x04"
+    "\x2B\x06\x01\x01\x01\x01\x05" "\x2B\x06\x01\x01\x01\x01\x06" "\x2B\x06\x01\x01\x01\x01\x07"
+    "\x2B\x06\x01\x01\x01\x01\x08" "\x2B\x06\x01\x01\x01\x01\x09" "\x2B\x06\x01\x01\x01\x01\x0A"
+    "\x2B\x06\x01\x01\x01\x01\x0B" "\x2B\x06\x01\x01\x01\x01\x0C" "\x2B\x06\x01\x01\x01\x01\x0D"
+    "\x2B\x06\x01\x01\x01\x01\x0E" "\x2B\x06\x01\x01\x01\x01\x0F" "\x2B\x06\x01\x01\x01\x01\x10"
+    "\x2B\x06\x01\x01\x01\x01\x11" "\x2B\x06\x01\x01\x01\x01\x12" "\x2B\x06\x01\x01\x01\x01\x13"
+    "\x2B\x06\x01\x01\x01\x01\x14" "\x2B\x06\x01\x01\x01\x01\x15" "\x2B\x06\x01\x01\x01\x01\x16"
+    "\x2B\x06\x01\x01\x01\x01\x17" "\x2B\x06\x01\x01\x01\x01\x18" "\x2B\x06\x01\x01\x01\x01\x1A"
+    "\x2B\x06\x01\x01\x01\x01\x1B" "\x2B\x06\x01\x01\x01\x01\x1F" "\x2B\x06\x01\x01\x01\x01\x20"
+    "\x2B\x06\x01\x01\x01\x01\x21" "\x2B\x06\x01\x01\x01\x02\x00" "\x2B\x06\x01\x01\x01\x02\x01",
+    "\x2B\x06\x01\x01\x01\x02\x02" "\x2B\x06\x01\x01\x01\x02\x03" "\x2B\x06\x01\x01\x01\x02\x04"
+    "\x2B\x06\x01\x01\x01\x02\x05" "\x2B\x06\x01\x01\x01\x02\x06" "\x2B\x06\x01\x01\x01\x02\x07"
+    "\x2B\x06\x01\x01\x01\x02\x08" "\x2B\x06\x01\x01\x01\x02\x09" "\x2B\x06\x01\x01\x01\x02\x0A"
+    "\x2B\x06\x01\x01\x01\x02\x0B" "\x2B\x06\x01\x01\x01\x02\x0C" "\x2B\x06\x01\x01\x01\x02\x10"
+    "\x2B\x06\x01\x01\x01\x02\x11" "\x2B\x06\x01\x01\x04" "\x2B\x06\x01\x01\x05" "\x2B\x06\x01\x01\x08"
+    "\x2B\x06\x01\x01\x0C" "\x2B\x06\x01\x01\x0D\x01" "\x2B\x06\x01\x01\x0D\x02" "\x2B\x06\x01\x01\x0E"
+    "\x2B\x06\x01\x01\x13" "\x2B\x06\x01\x01\x15" "\x2B\x06\x01\x01\x16" "\x2B\x06\x01\x02" "\x2B\x06\x01\x02\x01"
+    "\x2B\x06\x01\x02\x01\x01" "\x2B\x06\x01\x02\x01\x01\x01" "\x2B\x06\x01\x02\x01\x01\x02"
     "\x2B\x06\x01\x02\x01\x01\x03" "\x2B\x06\x01\x02\x01\x01\x03\x00" "\x2B\x06\x01\x02\x01\x01\x04"
     "\x2B\x06\x01\x02\x01\x01\x05" "\x2B\x06\x01\x02\x01\x01\x06" "\x2B\x06\x01\x02\x01\x01\x07"
     "\x2B\x06\x01\x02\x01\x01\x08" "\x2B\x06\x01\x02\x01\x01\x09" "\x2B\x06\x01\x02\x01\x01\x09\x01"
@@ -400,240 +400,239 @@ CONST_OID_TABLE const uint8_t const_oid_common_bytes[][512] = {
     "\x2B\x06\x01\x02\x01\x02\x02\x01\x0E" "\x2B\x06\x01\x02\x01\x02\x02\x01\x0F" "\x2B\x06\x01\x02\x01\x02\x02\x01\x10"
     "\x2B\x06\x01\x02\x01\x02\x02\x01\x11" "\x2B\x06\x01\x02\x01\x02\x02\x01\x12" "\x2B\x06\x01\x02\x01\x02\x02\x01\x13"
     "\x2B\x06\x01\x02\x01\x02\x02\x01\x14" "\x2B\x06\x01\x02\x01\x02\x02\x01\x15" "\x2B\x06\x01\x02\x01\x02\x02\x01\x16"
-    "\x2B\x06\x01\x02\x01\x03" "\x2B\x06\x01\x02\x01\x03\x01" "\x2B\x06\x01\x02\x01\x03\x01\x01"
-    "\x2B\x06\x01\x02\x01\x03\x01\x01\x01", "\x2B\x06\x01\x02\x01\x03\x01\x01\x02"
-    "\x2B\x06\x01\x02\x01\x03\x01\x01\x03" "\x2B\x06\x01\x02\x01\x04" "\x2B\x06\x01\x02\x01\x04\x01"
-    "\x2B\x06\x01\x02\x01\x04\x02" "\x2B\x06\x01\x02\x01\x04\x03" "\x2B\x06\x01\x02\x01\x04\x04"
-    "\x2B\x06\x01\x02\x01\x04\x05" "\x2B\x06\x01\x02\x01\x04\x06" "\x2B\x06\x01\x02\x01\x04\x07"
-    "\x2B\x06\x01\x02\x01\x04\x08" "\x2B\x06\x01\x02\x01\x04\x09" "\x2B\x06\x01\x02\x01\x04\x0A"
-    "\x2B\x06\x01\x02\x01\x04\x0B" "\x2B\x06\x01\x02\x01\x04\x0C" "\x2B\x06\x01\x02\x01\x04\x0D"
-    "\x2B\x06\x01\x02\x01\x04\x0E" "\x2B\x06\x01\x02\x01\x04\x0F" "\x2B\x06\x01\x02\x01\x04\x10"
-    "\x2B\x06\x01\x02\x01\x04\x11" "\x2B\x06\x01\x02\x01\x04\x12" "\x2B\x06\x01\x02\x01\x04\x13"
-    "\x2B\x06\x01\x02\x01\x04\x14" "\x2B\x06\x01\x02\x01\x04\x14\x01" "\x2B\x06\x01\x02\x01\x04\x14\x01\x01"
-    "\x2B\x06\x01\x02\x01\x04\x14\x01\x02" "\x2B\x06\x01\x02\x01\x04\x14\x01\x03" "\x2B\x06\x01\x02\x01\x04\x14\x01\x04"
-    "\x2B\x06\x01\x02\x01\x04\x14\x01\x05" "\x2B\x06\x01\x02\x01\x04\x15" "\x2B\x06\x01\x02\x01\x04\x15\x01"
-    "\x2B\x06\x01\x02\x01\x04\x15\x01\x01" "\x2B\x06\x01\x02\x01\x04\x15\x01\x02" "\x2B\x06\x01\x02\x01\x04\x15\x01\x03"
-    "\x2B\x06\x01\x02\x01\x04\x15\x01\x04" "\x2B\x06\x01\x02\x01\x04\x15\x01\x05" "\x2B\x06\x01\x02\x01\x04\x15\x01\x06"
-    "\x2B\x06\x01\x02\x01\x04\x15\x01\x07" "\x2B\x06\x01\x02\x01\x04\x15\x01\x08" "\x2B\x06\x01\x02\x01\x04\x15\x01\x09"
-    "\x2B\x06\x01\x02\x01\x04\x15\x01\x0A" "\x2B\x06\x01\x02\x01\x04\x15\x01\x0B" "\x2B\x06\x01\x02\x01\x04\x15\x01\x0C"
-    "\x2B\x06\x01\x02\x01\x04\x15\x01\x0D" "\x2B\x06\x01\x02\x01\x04\x16" "\x2B\x06\x01\x02\x01\x04\x16\x01"
-    "\x2B\x06\x01\x02\x01\x04\x16\x01\x01" "\x2B\x06\x01\x02\x01\x04\x16\x01\x02" "\x2B\x06\x01\x02\x01\x04\x16\x01\x03"
-    "\x2B\x06\x01\x02\x01\x04\x16\x01\x04" "\x2B\x06\x01\x02\x01\x04\x17" "\x2B\x06\x01\x02\x01\x04\x18"
-    "\x2B\x06\x01\x02\x01\x04\x18\x01" "\x2B\x06\x01\x02\x01\x04\x18\x02" "\x2B\x06\x01\x02\x01\x04\x18\x02\x01"
-    "\x2B\x06\x01\x02\x01\x04\x18\x02\x01\x01" "\x2B\x06\x01\x02\x01\x04\x18\x02\x01\x02"
-    "\x2B\x06\x01\x02\x01\x04\x18\x02\x01\x03" "\x2B\x06\x01\x02\x01\x04\x18\x02\x01\x04"
-    "\x2B\x06\x01\x02\x01\x04\x18\x02\x01\x05" "\x2B\x06\x01\x02\x01\x04\x18\x02\x01\x06"
-    "\x2B\x06\x01\x02\x01\x04\x18\x02\x01\x07", "\x2B\x06\x01\x02\x01\x04\x18\x02\x01\x08"
-    "\x2B\x06\x01\x02\x01\x04\x18\x02\x01\x09" "\x2B\x06\x01\x02\x01\x04\x18\x02\x01\x0A"
-    "\x2B\x06\x01\x02\x01\x04\x18\x02\x01\x0B" "\x2B\x06\x01\x02\x01\x04\x18\x02\x01\x0C"
-    "\x2B\x06\x01\x02\x01\x04\x18\x02\x01\x0D" "\x2B\x06\x01\x02\x01\x04\x18\x02\x01\x0E"
-    "\x2B\x06\x01\x02\x01\x04\x18\x02\x01\x0F" "\x2B\x06\x01\x02\x01\x04\x18\x03" "\x2B\x06\x01\x02\x01\x04\x18\x04"
-    "\x2B\x06\x01\x02\x01\x04\x18\x04\x01" "\x2B\x06\x01\x02\x01\x04\x18\x04\x01\x01"
-    "\x2B\x06\x01\x02\x01\x04\x18\x04\x01\x02" "\x2B\x06\x01\x02\x01\x04\x18\x04\x01\x03"
-    "\x2B\x06\x01\x02\x01\x04\x18\x04\x01\x04" "\x2B\x06\x01\x02\x01\x04\x18\x04\x01\x05"
-    "\x2B\x06\x01\x02\x01\x04\x18\x04\x01\x06" "\x2B\x06\x01\x02\x01\x04\x18\x04\x01\x07"
-    "\x2B\x06\x01\x02\x01\x04\x18\x04\x01\x08" "\x2B\x06\x01\x02\x01\x04\x18\x04\x01\x09"
-    "\x2B\x06\x01\x02\x01\x04\x18\x04\x01\x0A" "\x2B\x06\x01\x02\x01\x04\x18\x04\x01\x0B"
-    "\x2B\x06\x01\x02\x01\x04\x18\x04\x01\x0C" "\x2B\x06\x01\x02\x01\x04\x18\x04\x01\x0D"
-    "\x2B\x06\x01\x02\x01\x04\x18\x04\x01\x0E" "\x2B\x06\x01\x02\x01\x04\x18\x04\x01\x0F"
-    "\x2B\x06\x01\x02\x01\x04\x18\x04\x01\x10" "\x2B\x06\x01\x02\x01\x04\x18\x06" "\x2B\x06\x01\x02\x01\x04\x18\x07"
-    "\x2B\x06\x01\x02\x01\x04\x18\x07\x01" "\x2B\x06\x01\x02\x01\x04\x18\x07\x01\x01"
-    "\x2B\x06\x01\x02\x01\x04\x18\x07\x01\x02" "\x2B\x06\x01\x02\x01\x04\x18\x07\x01\x03"
-    "\x2B\x06\x01\x02\x01\x04\x18\x07\x01\x04" "\x2B\x06\x01\x02\x01\x04\x18\x07\x01\x05"
-    "\x2B\x06\x01\x02\x01\x04\x18\x07\x01\x06" "\x2B\x06\x01\x02\x01\x04\x18\x07\x01\x07"
-    "\x2B\x06\x01\x02\x01\x04\x18\x07\x01\x08" "\x2B\x06\x01\x02\x01\x04\x18\x07\x01\x09"
-    "\x2B\x06\x01\x02\x01\x04\x18\x07\x01\x0A" "\x2B\x06\x01\x02\x01\x04\x18\x07\x01\x0B"
-    "\x2B\x06\x01\x02\x01\x04\x18\x07\x01\x0C" "\x2B\x06\x01\x02\x01\x04\x18\x07\x01\x0D"
-    "\x2B\x06\x01\x02\x01\x04\x18\x07\x01\x0E" "\x2B\x06\x01\x02\x01\x04\x18\x07\x01\x0F"
-    "\x2B\x06\x01\x02\x01\x04\x18\x07\x01\x10" "\x2B\x06\x01\x02\x01\x04\x18\x07\x01\x11"
-    "\x2B\x06\x01\x02\x01\x04\x18\x08" "\x2B\x06\x01\x02\x01\x04\x19" "\x2B\x06\x01\x02\x01\x04\x1A"
-    "\x2B\x06\x01\x02\x01\x04\x1B" "\x2B\x06\x01\x02\x01\x04\x1C" "\x2B\x06\x01\x02\x01\x04\x1C\x01",
-    "\x2B\x06\x01\x02\x01\x04\x1C\x01\x01" "\x2B\x06\x01\x02\x01\x04\x1C\x01\x02" "\x2B\x06\x01\x02\x01\x04\x1C\x01\x03"
-    "\x2B\x06\x01\x02\x01\x04\x1C\x01\x04" "\x2B\x06\x01\x02\x01\x04\x1D" "\x2B\x06\x01\x02\x01\x04\x1E"
-    "\x2B\x06\x01\x02\x01\x04\x1E\x01" "\x2B\x06\x01\x02\x01\x04\x1E\x01\x01" "\x2B\x06\x01\x02\x01\x04\x1E\x01\x02"
-    "\x2B\x06\x01\x02\x01\x04\x1E\x01\x03" "\x2B\x06\x01\x02\x01\x04\x1E\x01\x05" "\x2B\x06\x01\x02\x01\x04\x1E\x01\x06"
-    "\x2B\x06\x01\x02\x01\x04\x1E\x01\x07" "\x2B\x06\x01\x02\x01\x04\x1E\x01\x08" "\x2B\x06\x01\x02\x01\x04\x1F"
-    "\x2B\x06\x01\x02\x01\x04\x1F\x01" "\x2B\x06\x01\x02\x01\x04\x1F\x01\x01" "\x2B\x06\x01\x02\x01\x04\x1F\x01\x01\x01"
-    "\x2B\x06\x01\x02\x01\x04\x1F\x01\x01\x03" "\x2B\x06\x01\x02\x01\x04\x1F\x01\x01\x04"
-    "\x2B\x06\x01\x02\x01\x04\x1F\x01\x01\x05" "\x2B\x06\x01\x02\x01\x04\x1F\x01\x01\x06"
-    "\x2B\x06\x01\x02\x01\x04\x1F\x01\x01\x07" "\x2B\x06\x01\x02\x01\x04\x1F\x01\x01\x08"
-    "\x2B\x06\x01\x02\x01\x04\x1F\x01\x01\x09" "\x2B\x06\x01\x02\x01\x04\x1F\x01\x01\x0A"
-    "\x2B\x06\x01\x02\x01\x04\x1F\x01\x01\x0B" "\x2B\x06\x01\x02\x01\x04\x1F\x01\x01\x0C"
-    "\x2B\x06\x01\x02\x01\x04\x1F\x01\x01\x0D" "\x2B\x06\x01\x02\x01\x04\x1F\x01\x01\x0E"
-    "\x2B\x06\x01\x02\x01\x04\x1F\x01\x01\x0F" "\x2B\x06\x01\x02\x01\x04\x1F\x01\x01\x10"
-    "\x2B\x06\x01\x02\x01\x04\x1F\x01\x01\x11" "\x2B\x06\x01\x02\x01\x04\x1F\x01\x01\x12"
-    "\x2B\x06\x01\x02\x01\x04\x1F\x01\x01\x13" "\x2B\x06\x01\x02\x01\x04\x1F\x01\x01\x14"
-    "\x2B\x06\x01\x02\x01\x04\x1F\x01\x01\x15" "\x2B\x06\x01\x02\x01\x04\x1F\x01\x01\x16"
-    "\x2B\x06\x01\x02\x01\x04\x1F\x01\x01\x17" "\x2B\x06\x01\x02\x01\x04\x1F\x01\x01\x18"
-    "\x2B\x06\x01\x02\x01\x04\x1F\x01\x01\x19" "\x2B\x06\x01\x02\x01\x04\x1F\x01\x01\x1A"
-    "\x2B\x06\x01\x02\x01\x04\x1F\x01\x01\x1B" "\x2B\x06\x01\x02\x01\x04\x1F\x01\x01\x1C"
-    "\x2B\x06\x01\x02\x01\x04\x1F\x01\x01\x1D" "\x2B\x06\x01\x02\x01\x04\x1F\x01\x01\x1E"
-    "\x2B\x06\x01\x02\x01\x04\x1F\x01\x01\x1F" "\x2B\x06\x01\x02\x01\x04\x1F\x01\x01\x20"
-    "\x2B\x06\x01\x02\x01\x04\x1F\x01\x01\x21" "\x2B\x06\x01\x02\x01\x04\x1F\x01\x01\x22"
-    "\x2B\x06\x01\x02\x01\x04\x1F\x01\x01\x23" "\x2B\x06\x01\x02\x01\x04\x1F\x01\x01\x24"
-    "\x2B\x06\x01\x02\x01\x04\x1F\x01\x01\x25", "\x2B\x06\x01\x02\x01\x04\x1F\x01\x01\x26"
-    "\x2B\x06\x01\x02\x01\x04\x1F\x01\x01\x27" "\x2B\x06\x01\x02\x01\x04\x1F\x01\x01\x28"
-    "\x2B\x06\x01\x02\x01\x04\x1F\x01\x01\x29" "\x2B\x06\x01\x02\x01\x04\x1F\x01\x01\x2A"
-    "\x2B\x06\x01\x02\x01\x04\x1F\x01\x01\x2B" "\x2B\x06\x01\x02\x01\x04\x1F\x01\x01\x2C"
-    "\x2B\x06\x01\x02\x01\x04\x1F\x01\x01\x2D" "\x2B\x06\x01\x02\x01\x04\x1F\x01\x01\x2E"
-    "\x2B\x06\x01\x02\x01\x04\x1F\x01\x01\x2F" "\x2B\x06\x01\x02\x01\x04\x1F\x02" "\x2B\x06\x01\x02\x01\x04\x1F\x03"
-    "\x2B\x06\x01\x02\x01\x04\x1F\x03\x01" "\x2B\x06\x01\x02\x01\x04\x1F\x03\x01\x01"
-    "\x2B\x06\x01\x02\x01\x04\x1F\x03\x01\x02" "\x2B\x06\x01\x02\x01\x04\x1F\x03\x01\x03"
-    "\x2B\x06\x01\x02\x01\x04\x1F\x03\x01\x04" "\x2B\x06\x01\x02\x01\x04\x1F\x03\x01\x05"
-    "\x2B\x06\x01\x02\x01\x04\x1F\x03\x01\x06" "\x2B\x06\x01\x02\x01\x04\x1F\x03\x01\x07"
-    "\x2B\x06\x01\x02\x01\x04\x1F\x03\x01\x08" "\x2B\x06\x01\x02\x01\x04\x1F\x03\x01\x09"
-    "\x2B\x06\x01\x02\x01\x04\x1F\x03\x01\x0A" "\x2B\x06\x01\x02\x01\x04\x1F\x03\x01\x0B"
-    "\x2B\x06\x01\x02\x01\x04\x1F\x03\x01\x0C" "\x2B\x06\x01\x02\x01\x04\x1F\x03\x01\x0D"
-    "\x2B\x06\x01\x02\x01\x04\x1F\x03\x01\x0E" "\x2B\x06\x01\x02\x01\x04\x1F\x03\x01\x0F"
-    "\x2B\x06\x01\x02\x01\x04\x1F\x03\x01\x10" "\x2B\x06\x01\x02\x01\x04\x1F\x03\x01\x11"
-    "\x2B\x06\x01\x02\x01\x04\x1F\x03\x01\x12" "\x2B\x06\x01\x02\x01\x04\x1F\x03\x01\x13"
-    "\x2B\x06\x01\x02\x01\x04\x1F\x03\x01\x14" "\x2B\x06\x01\x02\x01\x04\x1F\x03\x01\x15"
-    "\x2B\x06\x01\x02\x01\x04\x1F\x03\x01\x17" "\x2B\x06\x01\x02\x01\x04\x1F\x03\x01\x18"
-    "\x2B\x06\x01\x02\x01\x04\x1F\x03\x01\x19" "\x2B\x06\x01\x02\x01\x04\x1F\x03\x01\x1A"
-    "\x2B\x06\x01\x02\x01\x04\x1F\x03\x01\x1B" "\x2B\x06\x01\x02\x01\x04\x1F\x03\x01\x1C"
-    "\x2B\x06\x01\x02\x01\x04\x1F\x03\x01\x1D" "\x2B\x06\x01\x02\x01\x04\x1F\x03\x01\x1E"
-    "\x2B\x06\x01\x02\x01\x04\x1F\x03\x01\x1F" "\x2B\x06\x01\x02\x01\x04\x1F\x03\x01\x20"
-    "\x2B\x06\x01\x02\x01\x04\x1F\x03\x01\x21" "\x2B\x06\x01\x02\x01\x04\x1F\x03\x01\x22"
-    "\x2B\x06\x01\x02\x01\x04\x1F\x03\x01\x23" "\x2B\x06\x01\x02\x01\x04\x1F\x03\x01\x24"
-    "\x2B\x06\x01\x02\x01\x04\x1F\x03\x01\x25" "\x2B\x06\x01\x02\x01\x04\x1F\x03\x01\x26"
-    "\x2B\x06\x01\x02\x01\x04\x1F\x03\x01\x27", "\x2B\x06\x01\x02\x01\x04\x1F\x03\x01\x28"
-    "\x2B\x06\x01\x02\x01\x04\x1F\x03\x01\x29" "\x2B\x06\x01\x02\x01\x04\x1F\x03\x01\x2A"
-    "\x2B\x06\x01\x02\x01\x04\x1F\x03\x01\x2B" "\x2B\x06\x01\x02\x01\x04\x1F\x03\x01\x2C"
-    "\x2B\x06\x01\x02\x01\x04\x1F\x03\x01\x2D" "\x2B\x06\x01\x02\x01\x04\x1F\x03\x01\x2E"
-    "\x2B\x06\x01\x02\x01\x04\x1F\x03\x01\x2F" "\x2B\x06\x01\x02\x01\x04\x20" "\x2B\x06\x01\x02\x01\x04\x20\x01"
-    "\x2B\x06\x01\x02\x01\x04\x20\x01\x01" "\x2B\x06\x01\x02\x01\x04\x20\x01\x02" "\x2B\x06\x01\x02\x01\x04\x20\x01\x03"
-    "\x2B\x06\x01\x02\x01\x04\x20\x01\x04" "\x2B\x06\x01\x02\x01\x04\x20\x01\x05" "\x2B\x06\x01\x02\x01\x04\x20\x01\x06"
-    "\x2B\x06\x01\x02\x01\x04\x20\x01\x07" "\x2B\x06\x01\x02\x01\x04\x20\x01\x08" "\x2B\x06\x01\x02\x01\x04\x20\x01\x09"
-    "\x2B\x06\x01\x02\x01\x04\x21" "\x2B\x06\x01\x02\x01\x04\x22" "\x2B\x06\x01\x02\x01\x04\x22\x01"
-    "\x2B\x06\x01\x02\x01\x04\x22\x01\x01" "\x2B\x06\x01\x02\x01\x04\x22\x01\x02" "\x2B\x06\x01\x02\x01\x04\x22\x01\x03"
-    "\x2B\x06\x01\x02\x01\x04\x22\x01\x04" "\x2B\x06\x01\x02\x01\x04\x22\x01\x05" "\x2B\x06\x01\x02\x01\x04\x22\x01\x06"
-    "\x2B\x06\x01\x02\x01\x04\x22\x01\x07" "\x2B\x06\x01\x02\x01\x04\x22\x01\x08" "\x2B\x06\x01\x02\x01\x04\x22\x01\x09"
-    "\x2B\x06\x01\x02\x01\x04\x22\x01\x0A" "\x2B\x06\x01\x02\x01\x04\x22\x01\x0B" "\x2B\x06\x01\x02\x01\x04\x23"
-    "\x2B\x06\x01\x02\x01\x04\x23\x01" "\x2B\x06\x01\x02\x01\x04\x23\x01\x01" "\x2B\x06\x01\x02\x01\x04\x23\x01\x02"
-    "\x2B\x06\x01\x02\x01\x04\x23\x01\x03" "\x2B\x06\x01\x02\x01\x04\x23\x01\x04" "\x2B\x06\x01\x02\x01\x04\x23\x01\x05"
-    "\x2B\x06\x01\x02\x01\x04\x23\x01\x06" "\x2B\x06\x01\x02\x01\x04\x23\x01\x07" "\x2B\x06\x01\x02\x01\x04\x23\x01\x08"
-    "\x2B\x06\x01\x02\x01\x04\x24" "\x2B\x06\x01\x02\x01\x04\x24\x01" "\x2B\x06\x01\x02\x01\x04\x24\x01\x01"
-    "\x2B\x06\x01\x02\x01\x04\x24\x01\x02" "\x2B\x06\x01\x02\x01\x04\x24\x01\x03" "\x2B\x06\x01\x02\x01\x04\x24\x01\x04"
-    "\x2B\x06\x01\x02\x01\x04\x24\x01\x05" "\x2B\x06\x01\x02\x01\x04\x24\x01\x06" "\x2B\x06\x01\x02\x01\x04\x24\x01\x07"
-    "\x2B\x06\x01\x02\x01\x04\x24\x01\x08" "\x2B\x06\x01\x02\x01\x04\x24\x01\x09" "\x2B\x06\x01\x02\x01\x04\x24\x01\x0A"
-    "\x2B\x06\x01\x02\x01\x04\x24\x01\x0B" "\x2B\x06\x01\x02\x01\x04\x24\x01\x0C",
-    "\x2B\x06\x01\x02\x01\x04\x24\x01\x0D" "\x2B\x06\x01\x02\x01\x04\x25" "\x2B\x06\x01\x02\x01\x04\x25\x01"
-    "\x2B\x06\x01\x02\x01\x04\x25\x01\x01" "\x2B\x06\x01\x02\x01\x04\x25\x01\x02" "\x2B\x06\x01\x02\x01\x04\x25\x01\x03"
-    "\x2B\x06\x01\x02\x01\x04\x25\x01\x04" "\x2B\x06\x01\x02\x01\x04\x25\x01\x05" "\x2B\x06\x01\x02\x01\x04\x26"
-    "\x2B\x06\x01\x02\x01\x04\x27" "\x2B\x06\x01\x02\x01\x04\x27\x01" "\x2B\x06\x01\x02\x01\x04\x27\x01\x01"
-    "\x2B\x06\x01\x02\x01\x04\x27\x01\x02" "\x2B\x06\x01\x02\x01\x04\x27\x01\x03" "\x2B\x06\x01\x02\x01\x04\x27\x01\x04"
-    "\x2B\x06\x01\x02\x01\x04\x27\x01\x05" "\x2B\x06\x01\x02\x01\x04\x27\x01\x06" "\x2B\x06\x01\x02\x01\x04\x27\x01\x07"
-    "\x2B\x06\x01\x02\x01\x04\x27\x01\x08" "\x2B\x06\x01\x02\x01\x04\x27\x01\x09" "\x2B\x06\x01\x02\x01\x04\x27\x01\x0A"
-    "\x2B\x06\x01\x02\x01\x04\x27\x01\x0B" "\x2B\x06\x01\x02\x01\x04\x27\x01\x0C" "\x2B\x06\x01\x02\x01\x05"
-    "\x2B\x06\x01\x02\x01\x05\x01" "\x2B\x06\x01\x02\x01\x05\x02" "\x2B\x06\x01\x02\x01\x05\x03"
-    "\x2B\x06\x01\x02\x01\x05\x04" "\x2B\x06\x01\x02\x01\x05\x05" "\x2B\x06\x01\x02\x01\x05\x06"
-    "\x2B\x06\x01\x02\x01\x05\x07" "\x2B\x06\x01\x02\x01\x05\x08" "\x2B\x06\x01\x02\x01\x05\x09"
-    "\x2B\x06\x01\x02\x01\x05\x0A" "\x2B\x06\x01\x02\x01\x05\x0B" "\x2B\x06\x01\x02\x01\x05\x0C"
-    "\x2B\x06\x01\x02\x01\x05\x0D" "\x2B\x06\x01\x02\x01\x05\x0E" "\x2B\x06\x01\x02\x01\x05\x0F"
-    "\x2B\x06\x01\x02\x01\x05\x10" "\x2B\x06\x01\x02\x01\x05\x11" "\x2B\x06\x01\x02\x01\x05\x12"
-    "\x2B\x06\x01\x02\x01\x05\x13" "\x2B\x06\x01\x02\x01\x05\x14" "\x2B\x06\x01\x02\x01\x05\x15"
-    "\x2B\x06\x01\x02\x01\x05\x16" "\x2B\x06\x01\x02\x01\x05\x17" "\x2B\x06\x01\x02\x01\x05\x18"
-    "\x2B\x06\x01\x02\x01\x05\x19" "\x2B\x06\x01\x02\x01\x05\x1A" "\x2B\x06\x01\x02\x01\x05\x1D"
-    "\x2B\x06\x01\x02\x01\x05\x1D\x01" "\x2B\x06\x01\x02\x01\x05\x1D\x01\x01" "\x2B\x06\x01\x02\x01\x05\x1D\x01\x02"
-    "\x2B\x06\x01\x02\x01\x05\x1D\x01\x03" "\x2B\x06\x01\x02\x01\x05\x1D\x01\x04" "\x2B\x06\x01\x02\x01\x05\x1D\x01\x05"
-    "\x2B\x06\x01\x02\x01\x05\x1E" "\x2B\x06\x01\x02\x01\x05\x1E\x01" "\x2B\x06\x01\x02\x01\x05\x1E\x01\x01"
-    "\x2B\x06\x01\x02\x01\x05\x1E\x01\x02" "\x2B\x06\x01\x02\x01\x05\x1E\x01\x03" "\x2B\x06\x01\x02\x01\x05\x1E\x01\x04"
-    "\x2B\x06\x01\x02\x01\x06", "\x2B\x06\x01\x02\x01\x06\x01" "\x2B\x06\x01\x02\x01\x06\x02"
-    "\x2B\x06\x01\x02\x01\x06\x03" "\x2B\x06\x01\x02\x01\x06\x04" "\x2B\x06\x01\x02\x01\x06\x05"
-    "\x2B\x06\x01\x02\x01\x06\x06" "\x2B\x06\x01\x02\x01\x06\x07" "\x2B\x06\x01\x02\x01\x06\x08"
-    "\x2B\x06\x01\x02\x01\x06\x09" "\x2B\x06\x01\x02\x01\x06\x0A" "\x2B\x06\x01\x02\x01\x06\x0B"
-    "\x2B\x06\x01\x02\x01\x06\x0C" "\x2B\x06\x01\x02\x01\x06\x0D" "\x2B\x06\x01\x02\x01\x06\x0D\x01"
-    "\x2B\x06\x01\x02\x01\x06\x0D\x01\x01" "\x2B\x06\x01\x02\x01\x06\x0D\x01\x02" "\x2B\x06\x01\x02\x01\x06\x0D\x01\x03"
-    "\x2B\x06\x01\x02\x01\x06\x0D\x01\x04" "\x2B\x06\x01\x02\x01\x06\x0D\x01\x05" "\x2B\x06\x01\x02\x01\x06\x0E"
-    "\x2B\x06\x01\x02\x01\x06\x0F" "\x2B\x06\x01\x02\x01\x06\x11" "\x2B\x06\x01\x02\x01\x06\x12"
-    "\x2B\x06\x01\x02\x01\x06\x13" "\x2B\x06\x01\x02\x01\x06\x13\x01" "\x2B\x06\x01\x02\x01\x06\x13\x01\x01"
-    "\x2B\x06\x01\x02\x01\x06\x13\x01\x02" "\x2B\x06\x01\x02\x01\x06\x13\x01\x03" "\x2B\x06\x01\x02\x01\x06\x13\x01\x04"
-    "\x2B\x06\x01\x02\x01\x06\x13\x01\x05" "\x2B\x06\x01\x02\x01\x06\x13\x01\x06" "\x2B\x06\x01\x02\x01\x06\x13\x01\x07"
-    "\x2B\x06\x01\x02\x01\x06\x13\x01\x08" "\x2B\x06\x01\x02\x01\x06\x14" "\x2B\x06\x01\x02\x01\x06\x14\x01"
-    "\x2B\x06\x01\x02\x01\x06\x14\x01\x01" "\x2B\x06\x01\x02\x01\x06\x14\x01\x02" "\x2B\x06\x01\x02\x01\x06\x14\x01\x03"
-    "\x2B\x06\x01\x02\x01\x06\x14\x01\x04" "\x2B\x06\x01\x02\x01\x07" "\x2B\x06\x01\x02\x01\x07\x01"
-    "\x2B\x06\x01\x02\x01\x07\x02" "\x2B\x06\x01\x02\x01\x07\x03" "\x2B\x06\x01\x02\x01\x07\x04"
-    "\x2B\x06\x01\x02\x01\x07\x05" "\x2B\x06\x01\x02\x01\x07\x05\x01" "\x2B\x06\x01\x02\x01\x07\x05\x01\x01"
-    "\x2B\x06\x01\x02\x01\x07\x05\x01\x02" "\x2B\x06\x01\x02\x01\x07\x07" "\x2B\x06\x01\x02\x01\x07\x07\x01"
-    "\x2B\x06\x01\x02\x01\x07\x07\x01\x01" "\x2B\x06\x01\x02\x01\x07\x07\x01\x02" "\x2B\x06\x01\x02\x01\x07\x07\x01\x03"
-    "\x2B\x06\x01\x02\x01\x07\x07\x01\x04" "\x2B\x06\x01\x02\x01\x07\x07\x01\x05" "\x2B\x06\x01\x02\x01\x07\x07\x01\x06"
-    "\x2B\x06\x01\x02\x01\x07\x07\x01\x07" "\x2B\x06\x01\x02\x01\x07\x07\x01\x08" "\x2B\x06\x01\x02\x01\x07\x08"
-    "\x2B\x06\x01\x02\x01\x07\x09" "\x2B\x06\x01\x02\x01\x08" "\x2B\x06\x01\x02\x01\x08\x01"
-    "\x2B\x06\x01\x02\x01\x08\x02" "\x2B\x06\x01\x02\x01\x08\x03", "\x2B\x06\x01\x02\x01\x08\x04"
-    "\x2B\x06\x01\x02\x01\x08\x05" "\x2B\x06\x01\x02\x01\x08\x05\x01" "\x2B\x06\x01\x02\x01\x08\x05\x01\x01"
-    "\x2B\x06\x01\x02\x01\x08\x05\x01\x02" "\x2B\x06\x01\x02\x01\x08\x05\x01\x03" "\x2B\x06\x01\x02\x01\x08\x05\x01\x04"
-    "\x2B\x06\x01\x02\x01\x08\x05\x01\x05" "\x2B\x06\x01\x02\x01\x08\x05\x01\x06" "\x2B\x06\x01\x02\x01\x08\x05\x01\x07"
-    "\x2B\x06\x01\x02\x01\x08\x05\x01\x08" "\x2B\x06\x01\x02\x01\x08\x05\x01\x09" "\x2B\x06\x01\x02\x01\x08\x05\x01\x0A"
-    "\x2B\x06\x01\x02\x01\x08\x05\x01\x0B" "\x2B\x06\x01\x02\x01\x08\x05\x01\x0C" "\x2B\x06\x01\x02\x01\x08\x05\x01\x0D"
-    "\x2B\x06\x01\x02\x01\x08\x05\x01\x0E" "\x2B\x06\x01\x02\x01\x08\x05\x01\x0F" "\x2B\x06\x01\x02\x01\x08\x06"
-    "\x2B\x06\x01\x02\x01\x0A" "\x2B\x06\x01\x02\x01\x0A\x07" "\x2B\x06\x01\x02\x01\x0A\x07\x02"
-    "\x2B\x06\x01\x02\x01\x0A\x07\x02\x01" "\x2B\x06\x01\x02\x01\x0A\x07\x02\x01\x01"
-    "\x2B\x06\x01\x02\x01\x0A\x07\x02\x01\x02" "\x2B\x06\x01\x02\x01\x0A\x07\x02\x01\x03"
-    "\x2B\x06\x01\x02\x01\x0A\x07\x02\x01\x04" "\x2B\x06\x01\x02\x01\x0A\x07\x02\x01\x05"
-    "\x2B\x06\x01\x02\x01\x0A\x07\x02\x01\x06" "\x2B\x06\x01\x02\x01\x0A\x07\x02\x01\x07"
-    "\x2B\x06\x01\x02\x01\x0A\x07\x02\x01\x08" "\x2B\x06\x01\x02\x01\x0A\x07\x02\x01\x09"
-    "\x2B\x06\x01\x02\x01\x0A\x07\x02\x01\x0A" "\x2B\x06\x01\x02\x01\x0A\x07\x02\x01\x0B"
-    "\x2B\x06\x01\x02\x01\x0A\x07\x02\x01\x0D" "\x2B\x06\x01\x02\x01\x0A\x07\x02\x01\x10"
-    "\x2B\x06\x01\x02\x01\x0A\x07\x02\x01\x11" "\x2B\x06\x01\x02\x01\x0A\x07\x02\x01\x12"
-    "\x2B\x06\x01\x02\x01\x0A\x07\x02\x01\x13" "\x2B\x06\x01\x02\x01\x0A\x07\x02\x01\x14"
-    "\x2B\x06\x01\x02\x01\x0A\x07\x02\x01\x15" "\x2B\x06\x01\x02\x01\x0A\x07\x05" "\x2B\x06\x01\x02\x01\x0A\x07\x05\x01"
-    "\x2B\x06\x01\x02\x01\x0A\x07\x05\x01\x02" "\x2B\x06\x01\x02\x01\x0A\x07\x05\x01\x03"
-    "\x2B\x06\x01\x02\x01\x0A\x07\x06" "\x2B\x06\x01\x02\x01\x0A\x07\x06\x01" "\x2B\x06\x01\x02\x01\x0A\x07\x06\x02"
-    "\x2B\x06\x01\x02\x01\x0A\x07\x07" "\x2B\x06\x01\x02\x01\x0A\x07\x07\x01" "\x2B\x06\x01\x02\x01\x0A\x07\x07\x02"
-    "\x2B\x06\x01\x02\x01\x0A\x07\x09" "\x2B\x06\x01\x02\x01\x0A\x07\x09\x01" "\x2B\x06\x01\x02\x01\x0A\x07\x09\x01\x01"
-    "\x2B\x06\x01\x02\x01\x0A\x07\x09\x01\x02", "\x2B\x06\x01\x02\x01\x0A\x07\x09\x01\x03"
-    "\x2B\x06\x01\x02\x01\x0A\x07\x0A" "\x2B\x06\x01\x02\x01\x0A\x07\x0A\x01" "\x2B\x06\x01\x02\x01\x0A\x07\x0A\x01\x01"
-    "\x2B\x06\x01\x02\x01\x0A\x07\x0A\x01\x02" "\x2B\x06\x01\x02\x01\x0A\x07\x0A\x01\x03"
-    "\x2B\x06\x01\x02\x01\x0A\x07\x0A\x01\x04" "\x2B\x06\x01\x02\x01\x0A\x07\x0A\x01\x05"
-    "\x2B\x06\x01\x02\x01\x0A\x07\x0A\x01\x06" "\x2B\x06\x01\x02\x01\x0A\x07\x0B" "\x2B\x06\x01\x02\x01\x0A\x07\x0B\x01"
-    "\x2B\x06\x01\x02\x01\x0A\x07\x0B\x01\x01" "\x2B\x06\x01\x02\x01\x0A\x07\x0B\x01\x02"
-    "\x2B\x06\x01\x02\x01\x0A\x07\x0B\x01\x03" "\x2B\x06\x01\x02\x01\x0A\x07\x0B\x01\x04"
-    "\x2B\x06\x01\x02\x01\x0A\x07\x0B\x01\x05" "\x2B\x06\x01\x02\x01\x0A\x07\x0B\x01\x06" "\x2B\x06\x01\x02\x01\x0B"
-    "\x2B\x06\x01\x02\x01\x0B\x01" "\x2B\x06\x01\x02\x01\x0B\x02" "\x2B\x06\x01\x02\x01\x0B\x03"
-    "\x2B\x06\x01\x02\x01\x0B\x04" "\x2B\x06\x01\x02\x01\x0B\x05" "\x2B\x06\x01\x02\x01\x0B\x06"
-    "\x2B\x06\x01\x02\x01\x0B\x08" "\x2B\x06\x01\x02\x01\x0B\x09" "\x2B\x06\x01\x02\x01\x0B\x0A"
-    "\x2B\x06\x01\x02\x01\x0B\x0B" "\x2B\x06\x01\x02\x01\x0B\x0C" "\x2B\x06\x01\x02\x01\x0B\x0D"
-    "\x2B\x06\x01\x02\x01\x0B\x0E" "\x2B\x06\x01\x02\x01\x0B\x0F" "\x2B\x06\x01\x02\x01\x0B\x10"
-    "\x2B\x06\x01\x02\x01\x0B\x11" "\x2B\x06\x01\x02\x01\x0B\x12" "\x2B\x06\x01\x02\x01\x0B\x13"
-    "\x2B\x06\x01\x02\x01\x0B\x14" "\x2B\x06\x01\x02\x01\x0B\x15" "\x2B\x06\x01\x02\x01\x0B\x16"
-    "\x2B\x06\x01\x02\x01\x0B\x18" "\x2B\x06\x01\x02\x01\x0B\x19" "\x2B\x06\x01\x02\x01\x0B\x1A"
-    "\x2B\x06\x01\x02\x01\x0B\x1B" "\x2B\x06\x01\x02\x01\x0B\x1C" "\x2B\x06\x01\x02\x01\x0B\x1D"
-    "\x2B\x06\x01\x02\x01\x0B\x1E" "\x2B\x06\x01\x02\x01\x0B\x1F" "\x2B\x06\x01\x02\x01\x0B\x20"
-    "\x2B\x06\x01\x02\x01\x0F" "\x2B\x06\x01\x02\x01\x0F\x00" "\x2B\x06\x01\x02\x01\x0F\x00\x01"
-    "\x2B\x06\x01\x02\x01\x0F\x00\x02" "\x2B\x06\x01\x02\x01\x0F\x01" "\x2B\x06\x01\x02\x01\x0F\x02"
-    "\x2B\x06\x01\x02\x01\x0F\x03" "\x2B\x06\x01\x02\x01\x0F\x03\x01" "\x2B\x06\x01\x02\x01\x0F\x03\x01\x01"
-    "\x2B\x06\x01\x02\x01\x0F\x03\x01\x02" "\x2B\x06\x01\x02\x01\x0F\x03\x01\x03" "\x2B\x06\x01\x02\x01\x0F\x03\x01\x04"
-    "\x2B\x06\x01\x02\x01\x0F\x03\x01\x05" "\x2B\x06\x01\x02\x01\x0F\x03\x01\x06"
-    "\x2B\x06\x01\x02\x01\x0F\x03\x01\x07", "\x2B\x06\x01\x02\x01\x0F\x03\x01\x08"
-    "\x2B\x06\x01\x02\x01\x0F\x03\x01\x09" "\x2B\x06\x01\x02\x01\x0F\x03\x01\x0A" "\x2B\x06\x01\x02\x01\x0F\x03\x01\x0B"
-    "\x2B\x06\x01\x02\x01\x0F\x03\x01\x0C" "\x2B\x06\x01\x02\x01\x0F\x03\x01\x0D" "\x2B\x06\x01\x02\x01\x0F\x03\x01\x0E"
-    "\x2B\x06\x01\x02\x01\x0F\x03\x01\x0F" "\x2B\x06\x01\x02\x01\x0F\x03\x01\x10" "\x2B\x06\x01\x02\x01\x0F\x03\x01\x11"
-    "\x2B\x06\x01\x02\x01\x0F\x03\x01\x12" "\x2B\x06\x01\x02\x01\x0F\x03\x01\x13" "\x2B\x06\x01\x02\x01\x0F\x03\x01\x14"
-    "\x2B\x06\x01\x02\x01\x0F\x03\x01\x15" "\x2B\x06\x01\x02\x01\x0F\x03\x01\x16" "\x2B\x06\x01\x02\x01\x0F\x03\x01\x17"
-    "\x2B\x06\x01\x02\x01\x0F\x03\x01\x18" "\x2B\x06\x01\x02\x01\x0F\x04" "\x2B\x06\x01\x02\x01\x0F\x05"
-    "\x2B\x06\x01\x02\x01\x0F\x05\x01" "\x2B\x06\x01\x02\x01\x0F\x05\x01\x01" "\x2B\x06\x01\x02\x01\x0F\x05\x01\x02"
-    "\x2B\x06\x01\x02\x01\x0F\x05\x01\x03" "\x2B\x06\x01\x02\x01\x0F\x05\x01\x04" "\x2B\x06\x01\x02\x01\x0F\x05\x01\x05"
-    "\x2B\x06\x01\x02\x01\x0F\x05\x01\x06" "\x2B\x06\x01\x02\x01\x0F\x06" "\x2B\x06\x01\x02\x01\x0F\x06\x01"
-    "\x2B\x06\x01\x02\x01\x0F\x06\x01\x01" "\x2B\x06\x01\x02\x01\x0F\x06\x01\x02" "\x2B\x06\x01\x02\x01\x0F\x06\x01\x03"
-    "\x2B\x06\x01\x02\x01\x0F\x06\x01\x04" "\x2B\x06\x01\x02\x01\x0F\x06\x01\x05" "\x2B\x06\x01\x02\x01\x0F\x06\x01\x06"
-    "\x2B\x06\x01\x02\x01\x0F\x06\x01\x07" "\x2B\x06\x01\x02\x01\x0F\x06\x01\x08" "\x2B\x06\x01\x02\x01\x0F\x06\x01\x09"
-    "\x2B\x06\x01\x02\x01\x0F\x06\x01\x0A" "\x2B\x06\x01\x02\x01\x0F\x06\x01\x0B" "\x2B\x06\x01\x02\x01\x0F\x06\x01\x0C"
-    "\x2B\x06\x01\x02\x01\x0F\x06\x01\x0D" "\x2B\x06\x01\x02\x01\x0F\x06\x01\x0E" "\x2B\x06\x01\x02\x01\x0F\x07"
-    "\x2B\x06\x01\x02\x01\x0F\x07\x01" "\x2B\x06\x01\x02\x01\x0F\x07\x02" "\x2B\x06\x01\x02\x01\x10"
-    "\x2B\x06\x01\x02\x01\x10\x00" "\x2B\x06\x01\x02\x01\x10\x00\x01" "\x2B\x06\x01\x02\x01\x10\x00\x02"
-    "\x2B\x06\x01\x02\x01\x10\x01" "\x2B\x06\x01\x02\x01\x10\x01\x01" "\x2B\x06\x01\x02\x01\x10\x01\x01\x01"
-    "\x2B\x06\x01\x02\x01\x10\x01\x01\x01\x01" "\x2B\x06\x01\x02\x01\x10\x01\x01\x01\x02"
-    "\x2B\x06\x01\x02\x01\x10\x01\x01\x01\x03" "\x2B\x06\x01\x02\x01\x10\x01\x01\x01\x04"
-    "\x2B\x06\x01\x02\x01\x10\x01\x01\x01\x05" "\x2B\x06\x01\x02\x01\x10\x01\x01\x01\x06",
-    "\x2B\x06\x01\x02\x01\x10\x01\x01\x01\x07" "\x2B\x06\x01\x02\x01\x10\x01\x01\x01\x08"
-    "\x2B\x06\x01\x02\x01\x10\x01\x01\x01\x09" "\x2B\x06\x01\x02\x01\x10\x01\x01\x01\x0A"
-    "\x2B\x06\x01\x02\x01\x10\x01\x01\x01\x0B" "\x2B\x06\x01\x02\x01\x10\x01\x01\x01\x0C"
-    "\x2B\x06\x01\x02\x01\x10\x01\x01\x01\x0D" "\x2B\x06\x01\x02\x01\x10\x01\x01\x01\x0E"
-    "\x2B\x06\x01\x02\x01\x10\x01\x01\x01\x0F" "\x2B\x06\x01\x02\x01\x10\x01\x01\x01\x10"
-    "\x2B\x06\x01\x02\x01\x10\x01\x01\x01\x11" "\x2B\x06\x01\x02\x01\x10\x01\x01\x01\x12"
-    "\x2B\x06\x01\x02\x01\x10\x01\x01\x01\x13" "\x2B\x06\x01\x02\x01\x10\x01\x01\x01\x14"
-    "\x2B\x06\x01\x02\x01\x10\x01\x01\x01\x15" "\x2B\x06\x01\x02\x01\x10\x02" "\x2B\x06\x01\x02\x01\x10\x02\x01"
-    "\x2B\x06\x01\x02\x01\x10\x02\x01\x01" "\x2B\x06\x01\x02\x01\x10\x02\x01\x01\x01"
+    "\x2B\x06\x01\x02\x01\x03", "\x2B\x06\x01\x02\x01\x03\x01" "\x2B\x06\x01\x02\x01\x03\x01\x01"
+    "\x2B\x06\x01\x02\x01\x03\x01\x01\x01" "\x2B\x06\x01\x02\x01\x03\x01\x01\x02" "\x2B\x06\x01\x02\x01\x03\x01\x01\x03"
+    "\x2B\x06\x01\x02\x01\x04" "\x2B\x06\x01\x02\x01\x04\x01" "\x2B\x06\x01\x02\x01\x04\x02"
+    "\x2B\x06\x01\x02\x01\x04\x03" "\x2B\x06\x01\x02\x01\x04\x04" "\x2B\x06\x01\x02\x01\x04\x05"
+    "\x2B\x06\x01\x02\x01\x04\x06" "\x2B\x06\x01\x02\x01\x04\x07" "\x2B\x06\x01\x02\x01\x04\x08"
+    "\x2B\x06\x01\x02\x01\x04\x09" "\x2B\x06\x01\x02\x01\x04\x0A" "\x2B\x06\x01\x02\x01\x04\x0B"
+    "\x2B\x06\x01\x02\x01\x04\x0C" "\x2B\x06\x01\x02\x01\x04\x0D" "\x2B\x06\x01\x02\x01\x04\x0E"
+    "\x2B\x06\x01\x02\x01\x04\x0F" "\x2B\x06\x01\x02\x01\x04\x10" "\x2B\x06\x01\x02\x01\x04\x11"
+    "\x2B\x06\x01\x02\x01\x04\x12" "\x2B\x06\x01\x02\x01\x04\x13" "\x2B\x06\x01\x02\x01\x04\x14"
+    "\x2B\x06\x01\x02\x01\x04\x14\x01" "\x2B\x06\x01\x02\x01\x04\x14\x01\x01" "\x2B\x06\x01\x02\x01\x04\x14\x01\x02"
+    "\x2B\x06\x01\x02\x01\x04\x14\x01\x03" "\x2B\x06\x01\x02\x01\x04\x14\x01\x04" "\x2B\x06\x01\x02\x01\x04\x14\x01\x05"
+    "\x2B\x06\x01\x02\x01\x04\x15" "\x2B\x06\x01\x02\x01\x04\x15\x01" "\x2B\x06\x01\x02\x01\x04\x15\x01\x01"
+    "\x2B\x06\x01\x02\x01\x04\x15\x01\x02" "\x2B\x06\x01\x02\x01\x04\x15\x01\x03" "\x2B\x06\x01\x02\x01\x04\x15\x01\x04"
+    "\x2B\x06\x01\x02\x01\x04\x15\x01\x05" "\x2B\x06\x01\x02\x01\x04\x15\x01\x06" "\x2B\x06\x01\x02\x01\x04\x15\x01\x07"
+    "\x2B\x06\x01\x02\x01\x04\x15\x01\x08" "\x2B\x06\x01\x02\x01\x04\x15\x01\x09" "\x2B\x06\x01\x02\x01\x04\x15\x01\x0A"
+    "\x2B\x06\x01\x02\x01\x04\x15\x01\x0B" "\x2B\x06\x01\x02\x01\x04\x15\x01\x0C" "\x2B\x06\x01\x02\x01\x04\x15\x01\x0D"
+    "\x2B\x06\x01\x02\x01\x04\x16" "\x2B\x06\x01\x02\x01\x04\x16\x01" "\x2B\x06\x01\x02\x01\x04\x16\x01\x01"
+    "\x2B\x06\x01\x02\x01\x04\x16\x01\x02" "\x2B\x06\x01\x02\x01\x04\x16\x01\x03" "\x2B\x06\x01\x02\x01\x04\x16\x01\x04"
+    "\x2B\x06\x01\x02\x01\x04\x17" "\x2B\x06\x01\x02\x01\x04\x18" "\x2B\x06\x01\x02\x01\x04\x18\x01"
+    "\x2B\x06\x01\x02\x01\x04\x18\x02" "\x2B\x06\x01\x02\x01\x04\x18\x02\x01" "\x2B\x06\x01\x02\x01\x04\x18\x02\x01\x01"
+    "\x2B\x06\x01\x02\x01\x04\x18\x02\x01\x02" "\x2B\x06\x01\x02\x01\x04\x18\x02\x01\x03"
+    "\x2B\x06\x01\x02\x01\x04\x18\x02\x01\x04", "\x2B\x06\x01\x02\x01\x04\x18\x02\x01\x05"
+    "\x2B\x06\x01\x02\x01\x04\x18\x02\x01\x06" "\x2B\x06\x01\x02\x01\x04\x18\x02\x01\x07"
+    "\x2B\x06\x01\x02\x01\x04\x18\x02\x01\x08" "\x2B\x06\x01\x02\x01\x04\x18\x02\x01\x09"
+    "\x2B\x06\x01\x02\x01\x04\x18\x02\x01\x0A" "\x2B\x06\x01\x02\x01\x04\x18\x02\x01\x0B"
+    "\x2B\x06\x01\x02\x01\x04\x18\x02\x01\x0C" "\x2B\x06\x01\x02\x01\x04\x18\x02\x01\x0D"
+    "\x2B\x06\x01\x02\x01\x04\x18\x02\x01\x0E" "\x2B\x06\x01\x02\x01\x04\x18\x02\x01\x0F"
+    "\x2B\x06\x01\x02\x01\x04\x18\x03" "\x2B\x06\x01\x02\x01\x04\x18\x04" "\x2B\x06\x01\x02\x01\x04\x18\x04\x01"
+    "\x2B\x06\x01\x02\x01\x04\x18\x04\x01\x01" "\x2B\x06\x01\x02\x01\x04\x18\x04\x01\x02"
+    "\x2B\x06\x01\x02\x01\x04\x18\x04\x01\x03" "\x2B\x06\x01\x02\x01\x04\x18\x04\x01\x04"
+    "\x2B\x06\x01\x02\x01\x04\x18\x04\x01\x05" "\x2B\x06\x01\x02\x01\x04\x18\x04\x01\x06"
+    "\x2B\x06\x01\x02\x01\x04\x18\x04\x01\x07" "\x2B\x06\x01\x02\x01\x04\x18\x04\x01\x08"
+    "\x2B\x06\x01\x02\x01\x04\x18\x04\x01\x09" "\x2B\x06\x01\x02\x01\x04\x18\x04\x01\x0A"
+    "\x2B\x06\x01\x02\x01\x04\x18\x04\x01\x0B" "\x2B\x06\x01\x02\x01\x04\x18\x04\x01\x0C"
+    "\x2B\x06\x01\x02\x01\x04\x18\x04\x01\x0D" "\x2B\x06\x01\x02\x01\x04\x18\x04\x01\x0E"
+    "\x2B\x06\x01\x02\x01\x04\x18\x04\x01\x0F" "\x2B\x06\x01\x02\x01\x04\x18\x04\x01\x10"
+    "\x2B\x06\x01\x02\x01\x04\x18\x06" "\x2B\x06\x01\x02\x01\x04\x18\x07" "\x2B\x06\x01\x02\x01\x04\x18\x07\x01"
+    "\x2B\x06\x01\x02\x01\x04\x18\x07\x01\x01" "\x2B\x06\x01\x02\x01\x04\x18\x07\x01\x02"
+    "\x2B\x06\x01\x02\x01\x04\x18\x07\x01\x03" "\x2B\x06\x01\x02\x01\x04\x18\x07\x01\x04"
+    "\x2B\x06\x01\x02\x01\x04\x18\x07\x01\x05" "\x2B\x06\x01\x02\x01\x04\x18\x07\x01\x06"
+    "\x2B\x06\x01\x02\x01\x04\x18\x07\x01\x07" "\x2B\x06\x01\x02\x01\x04\x18\x07\x01\x08"
+    "\x2B\x06\x01\x02\x01\x04\x18\x07\x01\x09" "\x2B\x06\x01\x02\x01\x04\x18\x07\x01\x0A"
+    "\x2B\x06\x01\x02\x01\x04\x18\x07\x01\x0B" "\x2B\x06\x01\x02\x01\x04\x18\x07\x01\x0C"
+    "\x2B\x06\x01\x02\x01\x04\x18\x07\x01\x0D" "\x2B\x06\x01\x02\x01\x04\x18\x07\x01\x0E"
+    "\x2B\x06\x01\x02\x01\x04\x18\x07\x01\x0F" "\x2B\x06\x01\x02\x01\x04\x18\x07\x01\x10"
+    "\x2B\x06\x01\x02\x01\x04\x18\x07\x01\x11" "\x2B\x06\x01\x02\x01\x04\x18\x08" "\x2B\x06\x01\x02\x01\x04\x19",
+    "\x2B\x06\x01\x02\x01\x04\x1A" "\x2B\x06\x01\x02\x01\x04\x1B" "\x2B\x06\x01\x02\x01\x04\x1C"
+    "\x2B\x06\x01\x02\x01\x04\x1C\x01" "\x2B\x06\x01\x02\x01\x04\x1C\x01\x01" "\x2B\x06\x01\x02\x01\x04\x1C\x01\x02"
+    "\x2B\x06\x01\x02\x01\x04\x1C\x01\x03" "\x2B\x06\x01\x02\x01\x04\x1C\x01\x04" "\x2B\x06\x01\x02\x01\x04\x1D"
+    "\x2B\x06\x01\x02\x01\x04\x1E" "\x2B\x06\x01\x02\x01\x04\x1E\x01" "\x2B\x06\x01\x02\x01\x04\x1E\x01\x01"
+    "\x2B\x06\x01\x02\x01\x04\x1E\x01\x02" "\x2B\x06\x01\x02\x01\x04\x1E\x01\x03" "\x2B\x06\x01\x02\x01\x04\x1E\x01\x05"
+    "\x2B\x06\x01\x02\x01\x04\x1E\x01\x06" "\x2B\x06\x01\x02\x01\x04\x1E\x01\x07" "\x2B\x06\x01\x02\x01\x04\x1E\x01\x08"
+    "\x2B\x06\x01\x02\x01\x04\x1F" "\x2B\x06\x01\x02\x01\x04\x1F\x01" "\x2B\x06\x01\x02\x01\x04\x1F\x01\x01"
+    "\x2B\x06\x01\x02\x01\x04\x1F\x01\x01\x01" "\x2B\x06\x01\x02\x01\x04\x1F\x01\x01\x03"
+    "\x2B\x06\x01\x02\x01\x04\x1F\x01\x01\x04" "\x2B\x06\x01\x02\x01\x04\x1F\x01\x01\x05"
+    "\x2B\x06\x01\x02\x01\x04\x1F\x01\x01\x06" "\x2B\x06\x01\x02\x01\x04\x1F\x01\x01\x07"
+    "\x2B\x06\x01\x02\x01\x04\x1F\x01\x01\x08" "\x2B\x06\x01\x02\x01\x04\x1F\x01\x01\x09"
+    "\x2B\x06\x01\x02\x01\x04\x1F\x01\x01\x0A" "\x2B\x06\x01\x02\x01\x04\x1F\x01\x01\x0B"
+    "\x2B\x06\x01\x02\x01\x04\x1F\x01\x01\x0C" "\x2B\x06\x01\x02\x01\x04\x1F\x01\x01\x0D"
+    "\x2B\x06\x01\x02\x01\x04\x1F\x01\x01\x0E" "\x2B\x06\x01\x02\x01\x04\x1F\x01\x01\x0F"
+    "\x2B\x06\x01\x02\x01\x04\x1F\x01\x01\x10" "\x2B\x06\x01\x02\x01\x04\x1F\x01\x01\x11"
+    "\x2B\x06\x01\x02\x01\x04\x1F\x01\x01\x12" "\x2B\x06\x01\x02\x01\x04\x1F\x01\x01\x13"
+    "\x2B\x06\x01\x02\x01\x04\x1F\x01\x01\x14" "\x2B\x06\x01\x02\x01\x04\x1F\x01\x01\x15"
+    "\x2B\x06\x01\x02\x01\x04\x1F\x01\x01\x16" "\x2B\x06\x01\x02\x01\x04\x1F\x01\x01\x17"
+    "\x2B\x06\x01\x02\x01\x04\x1F\x01\x01\x18" "\x2B\x06\x01\x02\x01\x04\x1F\x01\x01\x19"
+    "\x2B\x06\x01\x02\x01\x04\x1F\x01\x01\x1A" "\x2B\x06\x01\x02\x01\x04\x1F\x01\x01\x1B"
+    "\x2B\x06\x01\x02\x01\x04\x1F\x01\x01\x1C" "\x2B\x06\x01\x02\x01\x04\x1F\x01\x01\x1D"
+    "\x2B\x06\x01\x02\x01\x04\x1F\x01\x01\x1E" "\x2B\x06\x01\x02\x01\x04\x1F\x01\x01\x1F"
+    "\x2B\x06\x01\x02\x01\x04\x1F\x01\x01\x20" "\x2B\x06\x01\x02\x01\x04\x1F\x01\x01\x21"
+    "\x2B\x06\x01\x02\x01\x04\x1F\x01\x01\x22", "\x2B\x06\x01\x02\x01\x04\x1F\x01\x01\x23"
+    "\x2B\x06\x01\x02\x01\x04\x1F\x01\x01\x24" "\x2B\x06\x01\x02\x01\x04\x1F\x01\x01\x25"
+    "\x2B\x06\x01\x02\x01\x04\x1F\x01\x01\x26" "\x2B\x06\x01\x02\x01\x04\x1F\x01\x01\x27"
+    "\x2B\x06\x01\x02\x01\x04\x1F\x01\x01\x28" "\x2B\x06\x01\x02\x01\x04\x1F\x01\x01\x29"
+    "\x2B\x06\x01\x02\x01\x04\x1F\x01\x01\x2A" "\x2B\x06\x01\x02\x01\x04\x1F\x01\x01\x2B"
+    "\x2B\x06\x01\x02\x01\x04\x1F\x01\x01\x2C" "\x2B\x06\x01\x02\x01\x04\x1F\x01\x01\x2D"
+    "\x2B\x06\x01\x02\x01\x04\x1F\x01\x01\x2E" "\x2B\x06\x01\x02\x01\x04\x1F\x01\x01\x2F"
+    "\x2B\x06\x01\x02\x01\x04\x1F\x02" "\x2B\x06\x01\x02\x01\x04\x1F\x03" "\x2B\x06\x01\x02\x01\x04\x1F\x03\x01"
+    "\x2B\x06\x01\x02\x01\x04\x1F\x03\x01\x01" "\x2B\x06\x01\x02\x01\x04\x1F\x03\x01\x02"
+    "\x2B\x06\x01\x02\x01\x04\x1F\x03\x01\x03" "\x2B\x06\x01\x02\x01\x04\x1F\x03\x01\x04"
+    "\x2B\x06\x01\x02\x01\x04\x1F\x03\x01\x05" "\x2B\x06\x01\x02\x01\x04\x1F\x03\x01\x06"
+    "\x2B\x06\x01\x02\x01\x04\x1F\x03\x01\x07" "\x2B\x06\x01\x02\x01\x04\x1F\x03\x01\x08"
+    "\x2B\x06\x01\x02\x01\x04\x1F\x03\x01\x09" "\x2B\x06\x01\x02\x01\x04\x1F\x03\x01\x0A"
+    "\x2B\x06\x01\x02\x01\x04\x1F\x03\x01\x0B" "\x2B\x06\x01\x02\x01\x04\x1F\x03\x01\x0C"
+    "\x2B\x06\x01\x02\x01\x04\x1F\x03\x01\x0D" "\x2B\x06\x01\x02\x01\x04\x1F\x03\x01\x0E"
+    "\x2B\x06\x01\x02\x01\x04\x1F\x03\x01\x0F" "\x2B\x06\x01\x02\x01\x04\x1F\x03\x01\x10"
+    "\x2B\x06\x01\x02\x01\x04\x1F\x03\x01\x11" "\x2B\x06\x01\x02\x01\x04\x1F\x03\x01\x12"
+    "\x2B\x06\x01\x02\x01\x04\x1F\x03\x01\x13" "\x2B\x06\x01\x02\x01\x04\x1F\x03\x01\x14"
+    "\x2B\x06\x01\x02\x01\x04\x1F\x03\x01\x15" "\x2B\x06\x01\x02\x01\x04\x1F\x03\x01\x17"
+    "\x2B\x06\x01\x02\x01\x04\x1F\x03\x01\x18" "\x2B\x06\x01\x02\x01\x04\x1F\x03\x01\x19"
+    "\x2B\x06\x01\x02\x01\x04\x1F\x03\x01\x1A" "\x2B\x06\x01\x02\x01\x04\x1F\x03\x01\x1B"
+    "\x2B\x06\x01\x02\x01\x04\x1F\x03\x01\x1C" "\x2B\x06\x01\x02\x01\x04\x1F\x03\x01\x1D"
+    "\x2B\x06\x01\x02\x01\x04\x1F\x03\x01\x1E" "\x2B\x06\x01\x02\x01\x04\x1F\x03\x01\x1F"
+    "\x2B\x06\x01\x02\x01\x04\x1F\x03\x01\x20" "\x2B\x06\x01\x02\x01\x04\x1F\x03\x01\x21"
+    "\x2B\x06\x01\x02\x01\x04\x1F\x03\x01\x22" "\x2B\x06\x01\x02\x01\x04\x1F\x03\x01\x23"
+    "\x2B\x06\x01\x02\x01\x04\x1F\x03\x01\x24", "\x2B\x06\x01\x02\x01\x04\x1F\x03\x01\x25"
+    "\x2B\x06\x01\x02\x01\x04\x1F\x03\x01\x26" "\x2B\x06\x01\x02\x01\x04\x1F\x03\x01\x27"
+    "\x2B\x06\x01\x02\x01\x04\x1F\x03\x01\x28" "\x2B\x06\x01\x02\x01\x04\x1F\x03\x01\x29"
+    "\x2B\x06\x01\x02\x01\x04\x1F\x03\x01\x2A" "\x2B\x06\x01\x02\x01\x04\x1F\x03\x01\x2B"
+    "\x2B\x06\x01\x02\x01\x04\x1F\x03\x01\x2C" "\x2B\x06\x01\x02\x01\x04\x1F\x03\x01\x2D"
+    "\x2B\x06\x01\x02\x01\x04\x1F\x03\x01\x2E" "\x2B\x06\x01\x02\x01\x04\x1F\x03\x01\x2F" "\x2B\x06\x01\x02\x01\x04\x20"
+    "\x2B\x06\x01\x02\x01\x04\x20\x01" "\x2B\x06\x01\x02\x01\x04\x20\x01\x01" "\x2B\x06\x01\x02\x01\x04\x20\x01\x02"
+    "\x2B\x06\x01\x02\x01\x04\x20\x01\x03" "\x2B\x06\x01\x02\x01\x04\x20\x01\x04" "\x2B\x06\x01\x02\x01\x04\x20\x01\x05"
+    "\x2B\x06\x01\x02\x01\x04\x20\x01\x06" "\x2B\x06\x01\x02\x01\x04\x20\x01\x07" "\x2B\x06\x01\x02\x01\x04\x20\x01\x08"
+    "\x2B\x06\x01\x02\x01\x04\x20\x01\x09" "\x2B\x06\x01\x02\x01\x04\x21" "\x2B\x06\x01\x02\x01\x04\x22"
+    "\x2B\x06\x01\x02\x01\x04\x22\x01" "\x2B\x06\x01\x02\x01\x04\x22\x01\x01" "\x2B\x06\x01\x02\x01\x04\x22\x01\x02"
+    "\x2B\x06\x01\x02\x01\x04\x22\x01\x03" "\x2B\x06\x01\x02\x01\x04\x22\x01\x04" "\x2B\x06\x01\x02\x01\x04\x22\x01\x05"
+    "\x2B\x06\x01\x02\x01\x04\x22\x01\x06" "\x2B\x06\x01\x02\x01\x04\x22\x01\x07" "\x2B\x06\x01\x02\x01\x04\x22\x01\x08"
+    "\x2B\x06\x01\x02\x01\x04\x22\x01\x09" "\x2B\x06\x01\x02\x01\x04\x22\x01\x0A" "\x2B\x06\x01\x02\x01\x04\x22\x01\x0B"
+    "\x2B\x06\x01\x02\x01\x04\x23" "\x2B\x06\x01\x02\x01\x04\x23\x01" "\x2B\x06\x01\x02\x01\x04\x23\x01\x01"
+    "\x2B\x06\x01\x02\x01\x04\x23\x01\x02" "\x2B\x06\x01\x02\x01\x04\x23\x01\x03" "\x2B\x06\x01\x02\x01\x04\x23\x01\x04"
+    "\x2B\x06\x01\x02\x01\x04\x23\x01\x05" "\x2B\x06\x01\x02\x01\x04\x23\x01\x06" "\x2B\x06\x01\x02\x01\x04\x23\x01\x07"
+    "\x2B\x06\x01\x02\x01\x04\x23\x01\x08" "\x2B\x06\x01\x02\x01\x04\x24" "\x2B\x06\x01\x02\x01\x04\x24\x01"
+    "\x2B\x06\x01\x02\x01\x04\x24\x01\x01" "\x2B\x06\x01\x02\x01\x04\x24\x01\x02" "\x2B\x06\x01\x02\x01\x04\x24\x01\x03"
+    "\x2B\x06\x01\x02\x01\x04\x24\x01\x04" "\x2B\x06\x01\x02\x01\x04\x24\x01\x05" "\x2B\x06\x01\x02\x01\x04\x24\x01\x06"
+    "\x2B\x06\x01\x02\x01\x04\x24\x01\x07" "\x2B\x06\x01\x02\x01\x04\x24\x01\x08",
+    "\x2B\x06\x01\x02\x01\x04\x24\x01\x09" "\x2B\x06\x01\x02\x01\x04\x24\x01\x0A" "\x2B\x06\x01\x02\x01\x04\x24\x01\x0B"
+    "\x2B\x06\x01\x02\x01\x04\x24\x01\x0C" "\x2B\x06\x01\x02\x01\x04\x24\x01\x0D" "\x2B\x06\x01\x02\x01\x04\x25"
+    "\x2B\x06\x01\x02\x01\x04\x25\x01" "\x2B\x06\x01\x02\x01\x04\x25\x01\x01" "\x2B\x06\x01\x02\x01\x04\x25\x01\x02"
+    "\x2B\x06\x01\x02\x01\x04\x25\x01\x03" "\x2B\x06\x01\x02\x01\x04\x25\x01\x04" "\x2B\x06\x01\x02\x01\x04\x25\x01\x05"
+    "\x2B\x06\x01\x02\x01\x04\x26" "\x2B\x06\x01\x02\x01\x04\x27" "\x2B\x06\x01\x02\x01\x04\x27\x01"
+    "\x2B\x06\x01\x02\x01\x04\x27\x01\x01" "\x2B\x06\x01\x02\x01\x04\x27\x01\x02" "\x2B\x06\x01\x02\x01\x04\x27\x01\x03"
+    "\x2B\x06\x01\x02\x01\x04\x27\x01\x04" "\x2B\x06\x01\x02\x01\x04\x27\x01\x05" "\x2B\x06\x01\x02\x01\x04\x27\x01\x06"
+    "\x2B\x06\x01\x02\x01\x04\x27\x01\x07" "\x2B\x06\x01\x02\x01\x04\x27\x01\x08" "\x2B\x06\x01\x02\x01\x04\x27\x01\x09"
+    "\x2B\x06\x01\x02\x01\x04\x27\x01\x0A" "\x2B\x06\x01\x02\x01\x04\x27\x01\x0B" "\x2B\x06\x01\x02\x01\x04\x27\x01\x0C"
+    "\x2B\x06\x01\x02\x01\x05" "\x2B\x06\x01\x02\x01\x05\x01" "\x2B\x06\x01\x02\x01\x05\x02"
+    "\x2B\x06\x01\x02\x01\x05\x03" "\x2B\x06\x01\x02\x01\x05\x04" "\x2B\x06\x01\x02\x01\x05\x05"
+    "\x2B\x06\x01\x02\x01\x05\x06" "\x2B\x06\x01\x02\x01\x05\x07" "\x2B\x06\x01\x02\x01\x05\x08"
+    "\x2B\x06\x01\x02\x01\x05\x09" "\x2B\x06\x01\x02\x01\x05\x0A" "\x2B\x06\x01\x02\x01\x05\x0B"
+    "\x2B\x06\x01\x02\x01\x05\x0C" "\x2B\x06\x01\x02\x01\x05\x0D" "\x2B\x06\x01\x02\x01\x05\x0E"
+    "\x2B\x06\x01\x02\x01\x05\x0F" "\x2B\x06\x01\x02\x01\x05\x10" "\x2B\x06\x01\x02\x01\x05\x11"
+    "\x2B\x06\x01\x02\x01\x05\x12" "\x2B\x06\x01\x02\x01\x05\x13" "\x2B\x06\x01\x02\x01\x05\x14"
+    "\x2B\x06\x01\x02\x01\x05\x15" "\x2B\x06\x01\x02\x01\x05\x16" "\x2B\x06\x01\x02\x01\x05\x17"
+    "\x2B\x06\x01\x02\x01\x05\x18" "\x2B\x06\x01\x02\x01\x05\x19" "\x2B\x06\x01\x02\x01\x05\x1A"
+    "\x2B\x06\x01\x02\x01\x05\x1D" "\x2B\x06\x01\x02\x01\x05\x1D\x01" "\x2B\x06\x01\x02\x01\x05\x1D\x01\x01"
+    "\x2B\x06\x01\x02\x01\x05\x1D\x01\x02" "\x2B\x06\x01\x02\x01\x05\x1D\x01\x03" "\x2B\x06\x01\x02\x01\x05\x1D\x01\x04"
+    "\x2B\x06\x01\x02\x01\x05\x1D\x01\x05" "\x2B\x06\x01\x02\x01\x05\x1E" "\x2B\x06\x01\x02\x01\x05\x1E\x01"
+    "\x2B\x06\x01\x02\x01\x05\x1E\x01\x01", "\x2B\x06\x01\x02\x01\x05\x1E\x01\x02"
+    "\x2B\x06\x01\x02\x01\x05\x1E\x01\x03" "\x2B\x06\x01\x02\x01\x05\x1E\x01\x04" "\x2B\x06\x01\x02\x01\x06"
+    "\x2B\x06\x01\x02\x01\x06\x01" "\x2B\x06\x01\x02\x01\x06\x02" "\x2B\x06\x01\x02\x01\x06\x03"
+    "\x2B\x06\x01\x02\x01\x06\x04" "\x2B\x06\x01\x02\x01\x06\x05" "\x2B\x06\x01\x02\x01\x06\x06"
+    "\x2B\x06\x01\x02\x01\x06\x07" "\x2B\x06\x01\x02\x01\x06\x08" "\x2B\x06\x01\x02\x01\x06\x09"
+    "\x2B\x06\x01\x02\x01\x06\x0A" "\x2B\x06\x01\x02\x01\x06\x0B" "\x2B\x06\x01\x02\x01\x06\x0C"
+    "\x2B\x06\x01\x02\x01\x06\x0D" "\x2B\x06\x01\x02\x01\x06\x0D\x01" "\x2B\x06\x01\x02\x01\x06\x0D\x01\x01"
+    "\x2B\x06\x01\x02\x01\x06\x0D\x01\x02" "\x2B\x06\x01\x02\x01\x06\x0D\x01\x03" "\x2B\x06\x01\x02\x01\x06\x0D\x01\x04"
+    "\x2B\x06\x01\x02\x01\x06\x0D\x01\x05" "\x2B\x06\x01\x02\x01\x06\x0E" "\x2B\x06\x01\x02\x01\x06\x0F"
+    "\x2B\x06\x01\x02\x01\x06\x11" "\x2B\x06\x01\x02\x01\x06\x12" "\x2B\x06\x01\x02\x01\x06\x13"
+    "\x2B\x06\x01\x02\x01\x06\x13\x01" "\x2B\x06\x01\x02\x01\x06\x13\x01\x01" "\x2B\x06\x01\x02\x01\x06\x13\x01\x02"
+    "\x2B\x06\x01\x02\x01\x06\x13\x01\x03" "\x2B\x06\x01\x02\x01\x06\x13\x01\x04" "\x2B\x06\x01\x02\x01\x06\x13\x01\x05"
+    "\x2B\x06\x01\x02\x01\x06\x13\x01\x06" "\x2B\x06\x01\x02\x01\x06\x13\x01\x07" "\x2B\x06\x01\x02\x01\x06\x13\x01\x08"
+    "\x2B\x06\x01\x02\x01\x06\x14" "\x2B\x06\x01\x02\x01\x06\x14\x01" "\x2B\x06\x01\x02\x01\x06\x14\x01\x01"
+    "\x2B\x06\x01\x02\x01\x06\x14\x01\x02" "\x2B\x06\x01\x02\x01\x06\x14\x01\x03" "\x2B\x06\x01\x02\x01\x06\x14\x01\x04"
+    "\x2B\x06\x01\x02\x01\x07" "\x2B\x06\x01\x02\x01\x07\x01" "\x2B\x06\x01\x02\x01\x07\x02"
+    "\x2B\x06\x01\x02\x01\x07\x03" "\x2B\x06\x01\x02\x01\x07\x04" "\x2B\x06\x01\x02\x01\x07\x05"
+    "\x2B\x06\x01\x02\x01\x07\x05\x01" "\x2B\x06\x01\x02\x01\x07\x05\x01\x01" "\x2B\x06\x01\x02\x01\x07\x05\x01\x02"
+    "\x2B\x06\x01\x02\x01\x07\x07" "\x2B\x06\x01\x02\x01\x07\x07\x01" "\x2B\x06\x01\x02\x01\x07\x07\x01\x01"
+    "\x2B\x06\x01\x02\x01\x07\x07\x01\x02" "\x2B\x06\x01\x02\x01\x07\x07\x01\x03" "\x2B\x06\x01\x02\x01\x07\x07\x01\x04"
+    "\x2B\x06\x01\x02\x01\x07\x07\x01\x05" "\x2B\x06\x01\x02\x01\x07\x07\x01\x06" "\x2B\x06\x01\x02\x01\x07\x07\x01\x07"
+    "\x2B\x06\x01\x02\x01\x07\x07\x01\x08" "\x2B\x06\x01\x02\x01\x07\x08", "\x2B\x06\x01\x02\x01\x07\x09"
+    "\x2B\x06\x01\x02\x01\x08" "\x2B\x06\x01\x02\x01\x08\x01" "\x2B\x06\x01\x02\x01\x08\x02"
+    "\x2B\x06\x01\x02\x01\x08\x03" "\x2B\x06\x01\x02\x01\x08\x04" "\x2B\x06\x01\x02\x01\x08\x05"
+    "\x2B\x06\x01\x02\x01\x08\x05\x01" "\x2B\x06\x01\x02\x01\x08\x05\x01\x01" "\x2B\x06\x01\x02\x01\x08\x05\x01\x02"
+    "\x2B\x06\x01\x02\x01\x08\x05\x01\x03" "\x2B\x06\x01\x02\x01\x08\x05\x01\x04" "\x2B\x06\x01\x02\x01\x08\x05\x01\x05"
+    "\x2B\x06\x01\x02\x01\x08\x05\x01\x06" "\x2B\x06\x01\x02\x01\x08\x05\x01\x07" "\x2B\x06\x01\x02\x01\x08\x05\x01\x08"
+    "\x2B\x06\x01\x02\x01\x08\x05\x01\x09" "\x2B\x06\x01\x02\x01\x08\x05\x01\x0A" "\x2B\x06\x01\x02\x01\x08\x05\x01\x0B"
+    "\x2B\x06\x01\x02\x01\x08\x05\x01\x0C" "\x2B\x06\x01\x02\x01\x08\x05\x01\x0D" "\x2B\x06\x01\x02\x01\x08\x05\x01\x0E"
+    "\x2B\x06\x01\x02\x01\x08\x05\x01\x0F" "\x2B\x06\x01\x02\x01\x08\x06" "\x2B\x06\x01\x02\x01\x0A"
+    "\x2B\x06\x01\x02\x01\x0A\x07" "\x2B\x06\x01\x02\x01\x0A\x07\x02" "\x2B\x06\x01\x02\x01\x0A\x07\x02\x01"
+    "\x2B\x06\x01\x02\x01\x0A\x07\x02\x01\x01" "\x2B\x06\x01\x02\x01\x0A\x07\x02\x01\x02"
+    "\x2B\x06\x01\x02\x01\x0A\x07\x02\x01\x03" "\x2B\x06\x01\x02\x01\x0A\x07\x02\x01\x04"
+    "\x2B\x06\x01\x02\x01\x0A\x07\x02\x01\x05" "\x2B\x06\x01\x02\x01\x0A\x07\x02\x01\x06"
+    "\x2B\x06\x01\x02\x01\x0A\x07\x02\x01\x07" "\x2B\x06\x01\x02\x01\x0A\x07\x02\x01\x08"
+    "\x2B\x06\x01\x02\x01\x0A\x07\x02\x01\x09" "\x2B\x06\x01\x02\x01\x0A\x07\x02\x01\x0A"
+    "\x2B\x06\x01\x02\x01\x0A\x07\x02\x01\x0B" "\x2B\x06\x01\x02\x01\x0A\x07\x02\x01\x0D"
+    "\x2B\x06\x01\x02\x01\x0A\x07\x02\x01\x10" "\x2B\x06\x01\x02\x01\x0A\x07\x02\x01\x11"
+    "\x2B\x06\x01\x02\x01\x0A\x07\x02\x01\x12" "\x2B\x06\x01\x02\x01\x0A\x07\x02\x01\x13"
+    "\x2B\x06\x01\x02\x01\x0A\x07\x02\x01\x14" "\x2B\x06\x01\x02\x01\x0A\x07\x02\x01\x15"
+    "\x2B\x06\x01\x02\x01\x0A\x07\x05" "\x2B\x06\x01\x02\x01\x0A\x07\x05\x01" "\x2B\x06\x01\x02\x01\x0A\x07\x05\x01\x02"
+    "\x2B\x06\x01\x02\x01\x0A\x07\x05\x01\x03" "\x2B\x06\x01\x02\x01\x0A\x07\x06" "\x2B\x06\x01\x02\x01\x0A\x07\x06\x01"
+    "\x2B\x06\x01\x02\x01\x0A\x07\x06\x02" "\x2B\x06\x01\x02\x01\x0A\x07\x07" "\x2B\x06\x01\x02\x01\x0A\x07\x07\x01"
+    "\x2B\x06\x01\x02\x01\x0A\x07\x07\x02" "\x2B\x06\x01\x02\x01\x0A\x07\x09", "\x2B\x06\x01\x02\x01\x0A\x07\x09\x01"
+    "\x2B\x06\x01\x02\x01\x0A\x07\x09\x01\x01" "\x2B\x06\x01\x02\x01\x0A\x07\x09\x01\x02"
+    "\x2B\x06\x01\x02\x01\x0A\x07\x09\x01\x03" "\x2B\x06\x01\x02\x01\x0A\x07\x0A" "\x2B\x06\x01\x02\x01\x0A\x07\x0A\x01"
+    "\x2B\x06\x01\x02\x01\x0A\x07\x0A\x01\x01" "\x2B\x06\x01\x02\x01\x0A\x07\x0A\x01\x02"
+    "\x2B\x06\x01\x02\x01\x0A\x07\x0A\x01\x03" "\x2B\x06\x01\x02\x01\x0A\x07\x0A\x01\x04"
+    "\x2B\x06\x01\x02\x01\x0A\x07\x0A\x01\x05" "\x2B\x06\x01\x02\x01\x0A\x07\x0A\x01\x06"
+    "\x2B\x06\x01\x02\x01\x0A\x07\x0B" "\x2B\x06\x01\x02\x01\x0A\x07\x0B\x01" "\x2B\x06\x01\x02\x01\x0A\x07\x0B\x01\x01"
+    "\x2B\x06\x01\x02\x01\x0A\x07\x0B\x01\x02" "\x2B\x06\x01\x02\x01\x0A\x07\x0B\x01\x03"
+    "\x2B\x06\x01\x02\x01\x0A\x07\x0B\x01\x04" "\x2B\x06\x01\x02\x01\x0A\x07\x0B\x01\x05"
+    "\x2B\x06\x01\x02\x01\x0A\x07\x0B\x01\x06" "\x2B\x06\x01\x02\x01\x0B" "\x2B\x06\x01\x02\x01\x0B\x01"
+    "\x2B\x06\x01\x02\x01\x0B\x02" "\x2B\x06\x01\x02\x01\x0B\x03" "\x2B\x06\x01\x02\x01\x0B\x04"
+    "\x2B\x06\x01\x02\x01\x0B\x05" "\x2B\x06\x01\x02\x01\x0B\x06" "\x2B\x06\x01\x02\x01\x0B\x08"
+    "\x2B\x06\x01\x02\x01\x0B\x09" "\x2B\x06\x01\x02\x01\x0B\x0A" "\x2B\x06\x01\x02\x01\x0B\x0B"
+    "\x2B\x06\x01\x02\x01\x0B\x0C" "\x2B\x06\x01\x02\x01\x0B\x0D" "\x2B\x06\x01\x02\x01\x0B\x0E"
+    "\x2B\x06\x01\x02\x01\x0B\x0F" "\x2B\x06\x01\x02\x01\x0B\x10" "\x2B\x06\x01\x02\x01\x0B\x11"
+    "\x2B\x06\x01\x02\x01\x0B\x12" "\x2B\x06\x01\x02\x01\x0B\x13" "\x2B\x06\x01\x02\x01\x0B\x14"
+    "\x2B\x06\x01\x02\x01\x0B\x15" "\x2B\x06\x01\x02\x01\x0B\x16" "\x2B\x06\x01\x02\x01\x0B\x18"
+    "\x2B\x06\x01\x02\x01\x0B\x19" "\x2B\x06\x01\x02\x01\x0B\x1A" "\x2B\x06\x01\x02\x01\x0B\x1B"
+    "\x2B\x06\x01\x02\x01\x0B\x1C" "\x2B\x06\x01\x02\x01\x0B\x1D" "\x2B\x06\x01\x02\x01\x0B\x1E"
+    "\x2B\x06\x01\x02\x01\x0B\x1F" "\x2B\x06\x01\x02\x01\x0B\x20" "\x2B\x06\x01\x02\x01\x0F"
+    "\x2B\x06\x01\x02\x01\x0F\x00" "\x2B\x06\x01\x02\x01\x0F\x00\x01" "\x2B\x06\x01\x02\x01\x0F\x00\x02"
+    "\x2B\x06\x01\x02\x01\x0F\x01" "\x2B\x06\x01\x02\x01\x0F\x02" "\x2B\x06\x01\x02\x01\x0F\x03"
+    "\x2B\x06\x01\x02\x01\x0F\x03\x01" "\x2B\x06\x01\x02\x01\x0F\x03\x01\x01" "\x2B\x06\x01\x02\x01\x0F\x03\x01\x02"
+    "\x2B\x06\x01\x02\x01\x0F\x03\x01\x03" "\x2B\x06\x01\x02\x01\x0F\x03\x01\x04",
+    "\x2B\x06\x01\x02\x01\x0F\x03\x01\x05" "\x2B\x06\x01\x02\x01\x0F\x03\x01\x06" "\x2B\x06\x01\x02\x01\x0F\x03\x01\x07"
+    "\x2B\x06\x01\x02\x01\x0F\x03\x01\x08" "\x2B\x06\x01\x02\x01\x0F\x03\x01\x09" "\x2B\x06\x01\x02\x01\x0F\x03\x01\x0A"
+    "\x2B\x06\x01\x02\x01\x0F\x03\x01\x0B" "\x2B\x06\x01\x02\x01\x0F\x03\x01\x0C" "\x2B\x06\x01\x02\x01\x0F\x03\x01\x0D"
+    "\x2B\x06\x01\x02\x01\x0F\x03\x01\x0E" "\x2B\x06\x01\x02\x01\x0F\x03\x01\x0F" "\x2B\x06\x01\x02\x01\x0F\x03\x01\x10"
+    "\x2B\x06\x01\x02\x01\x0F\x03\x01\x11" "\x2B\x06\x01\x02\x01\x0F\x03\x01\x12" "\x2B\x06\x01\x02\x01\x0F\x03\x01\x13"
+    "\x2B\x06\x01\x02\x01\x0F\x03\x01\x14" "\x2B\x06\x01\x02\x01\x0F\x03\x01\x15" "\x2B\x06\x01\x02\x01\x0F\x03\x01\x16"
+    "\x2B\x06\x01\x02\x01\x0F\x03\x01\x17" "\x2B\x06\x01\x02\x01\x0F\x03\x01\x18" "\x2B\x06\x01\x02\x01\x0F\x04"
+    "\x2B\x06\x01\x02\x01\x0F\x05" "\x2B\x06\x01\x02\x01\x0F\x05\x01" "\x2B\x06\x01\x02\x01\x0F\x05\x01\x01"
+    "\x2B\x06\x01\x02\x01\x0F\x05\x01\x02" "\x2B\x06\x01\x02\x01\x0F\x05\x01\x03" "\x2B\x06\x01\x02\x01\x0F\x05\x01\x04"
+    "\x2B\x06\x01\x02\x01\x0F\x05\x01\x05" "\x2B\x06\x01\x02\x01\x0F\x05\x01\x06" "\x2B\x06\x01\x02\x01\x0F\x06"
+    "\x2B\x06\x01\x02\x01\x0F\x06\x01" "\x2B\x06\x01\x02\x01\x0F\x06\x01\x01" "\x2B\x06\x01\x02\x01\x0F\x06\x01\x02"
+    "\x2B\x06\x01\x02\x01\x0F\x06\x01\x03" "\x2B\x06\x01\x02\x01\x0F\x06\x01\x04" "\x2B\x06\x01\x02\x01\x0F\x06\x01\x05"
+    "\x2B\x06\x01\x02\x01\x0F\x06\x01\x06" "\x2B\x06\x01\x02\x01\x0F\x06\x01\x07" "\x2B\x06\x01\x02\x01\x0F\x06\x01\x08"
+    "\x2B\x06\x01\x02\x01\x0F\x06\x01\x09" "\x2B\x06\x01\x02\x01\x0F\x06\x01\x0A" "\x2B\x06\x01\x02\x01\x0F\x06\x01\x0B"
+    "\x2B\x06\x01\x02\x01\x0F\x06\x01\x0C" "\x2B\x06\x01\x02\x01\x0F\x06\x01\x0D" "\x2B\x06\x01\x02\x01\x0F\x06\x01\x0E"
+    "\x2B\x06\x01\x02\x01\x0F\x07" "\x2B\x06\x01\x02\x01\x0F\x07\x01" "\x2B\x06\x01\x02\x01\x0F\x07\x02"
+    "\x2B\x06\x01\x02\x01\x10" "\x2B\x06\x01\x02\x01\x10\x00" "\x2B\x06\x01\x02\x01\x10\x00\x01"
+    "\x2B\x06\x01\x02\x01\x10\x00\x02" "\x2B\x06\x01\x02\x01\x10\x01" "\x2B\x06\x01\x02\x01\x10\x01\x01"
+    "\x2B\x06\x01\x02\x01\x10\x01\x01\x01" "\x2B\x06\x01\x02\x01\x10\x01\x01\x01\x01"
+    "\x2B\x06\x01\x02\x01\x10\x01\x01\x01\x02" "\x2B\x06\x01\x02\x01\x10\x01\x01\x01\x03",
+    "\x2B\x06\x01\x02\x01\x10\x01\x01\x01\x04" "\x2B\x06\x01\x02\x01\x10\x01\x01\x01\x05"
+    "\x2B\x06\x01\x02\x01\x10\x01\x01\x01\x06" "\x2B\x06\x01\x02\x01\x10\x01\x01\x01\x07"
+    "\x2B\x06\x01\x02\x01\x10\x01\x01\x01\x08" "\x2B\x06\x01\x02\x01\x10\x01\x01\x01\x09"
+    "\x2B\x06\x01\x02\x01\x10\x01\x01\x01\x0A" "\x2B\x06\x01\x02\x01\x10\x01\x01\x01\x0B"
+    "\x2B\x06\x01\x02\x01\x10\x01\x01\x01\x0C" "\x2B\x06\x01\x02\x01\x10\x01\x01\x01\x0D"
+    "\x2B\x06\x01\x02\x01\x10\x01\x01\x01\x0E" "\x2B\x06\x01\x02\x01\x10\x01\x01\x01\x0F"
+    "\x2B\x06\x01\x02\x01\x10\x01\x01\x01\x10" "\x2B\x06\x01\x02\x01\x10\x01\x01\x01\x11"
+    "\x2B\x06\x01\x02\x01\x10\x01\x01\x01\x12" "\x2B\x06\x01\x02\x01\x10\x01\x01\x01\x13"
+    "\x2B\x06\x01\x02\x01\x10\x01\x01\x01\x14" "\x2B\x06\x01\x02\x01\x10\x01\x01\x01\x15" "\x2B\x06\x01\x02\x01\x10\x02"
+    "\x2B\x06\x01\x02\x01\x10\x02\x01" "\x2B\x06\x01\x02\x01\x10\x02\x01\x01" "\x2B\x06\x01\x02\x01\x10\x02\x01\x01\x01"
     "\x2B\x06\x01\x02\x01\x10\x02\x01\x01\x02" "\x2B\x06\x01\x02\x01\x10\x02\x01\x01\x03"
     "\x2B\x06\x01\x02\x01\x10\x02\x01\x01\x04" "\x2B\x06\x01\x02\x01\x10\x02\x01\x01\x05"
     "\x2B\x06\x01\x02\x01\x10\x02\x01\x01\x06" "\x2B\x06\x01\x02\x01\x10\x02\x01\x01\x07"
@@ -647,8 +646,8 @@ CONST_OID_TABLE const uint8_t const_oid_common_bytes[][512] = {
     "\x2B\x06\x01\x02\x01\x10\x02\x02\x01\x0E" "\x2B\x06\x01\x02\x01\x10\x02\x02\x01\x0F" "\x2B\x06\x01\x02\x01\x10\x03"
     "\x2B\x06\x01\x02\x01\x10\x03\x01" "\x2B\x06\x01\x02\x01\x10\x03\x01\x01" "\x2B\x06\x01\x02\x01\x10\x03\x01\x01\x01"
     "\x2B\x06\x01\x02\x01\x10\x03\x01\x01\x02" "\x2B\x06\x01\x02\x01\x10\x03\x01\x01\x03"
-    "\x2B\x06\x01\x02\x01\x10\x03\x01\x01\x04" "\x2B\x06\x01\x02\x01\x10\x03\x01\x01\x05"
-    "\x2B\x06\x01\x02\x01\x10\x03\x01\x01\x06" "\x2B\x06\x01\x02\x01\x10\x03\x01\x01\x07",
+    "\x2B\x06\x01\x02\x01\x10\x03\x01\x01\x04", "\x2B\x06\x01\x02\x01\x10\x03\x01\x01\x05"
+    "\x2B\x06\x01\x02\x01\x10\x03\x01\x01\x06" "\x2B\x06\x01\x02\x01\x10\x03\x01\x01\x07"
     "\x2B\x06\x01\x02\x01\x10\x03\x01\x01\x08" "\x2B\x06\x01\x02\x01\x10\x03\x01\x01\x09"
     "\x2B\x06\x01\x02\x01\x10\x03\x01\x01\x0A" "\x2B\x06\x01\x02\x01\x10\x03\x01\x01\x0B"
     "\x2B\x06\x01\x02\x01\x10\x03\x01\x01\x0C" "\x2B\x06\x01\x02\x01\x10\x04" "\x2B\x06\x01\x02\x01\x10\x04\x01"
@@ -671,12 +670,11 @@ CONST_OID_TABLE const uint8_t const_oid_common_bytes[][512] = {
     "\x2B\x06\x01\x02\x01\x10\x05\x01\x01\x02" "\x2B\x06\x01\x02\x01\x10\x05\x01\x01\x03"
     "\x2B\x06\x01\x02\x01\x10\x05\x01\x01\x04" "\x2B\x06\x01\x02\x01\x10\x05\x01\x01\x05"
     "\x2B\x06\x01\x02\x01\x10\x05\x01\x01\x06" "\x2B\x06\x01\x02\x01\x10\x05\x01\x01\x07"
-    "\x2B\x06\x01\x02\x01\x10\x05\x01\x01\x08" "\x2B\x06\x01\x02\x01\x10\x05\x01\x01\x09"
-    "\x2B\x06\x01\x02\x01\x10\x05\x01\x01\x0A" "\x2B\x06\x01\x02\x01\x10\x05\x02"
-    "\x2B\x06\x01\x02\x01\x10\x05\x02\x01", "\x2B\x06\x01\x02\x01\x10\x05\x02\x01\x01"
-    "\x2B\x06\x01\x02\x01\x10\x05\x02\x01\x02" "\x2B\x06\x01\x02\x01\x10\x05\x02\x01\x03"
-    "\x2B\x06\x01\x02\x01\x10\x05\x02\x01\x04" "\x2B\x06\x01\x02\x01\x10\x06" "\x2B\x06\x01\x02\x01\x10\x06\x01"
-    "\x2B\x06\x01\x02\x01\x10\x06\x01\x01" "\x2B\x06\x01\x02\x01\x10\x06\x01\x01\x01"
+    "\x2B\x06\x01\x02\x01\x10\x05\x01\x01\x08", "\x2B\x06\x01\x02\x01\x10\x05\x01\x01\x09"
+    "\x2B\x06\x01\x02\x01\x10\x05\x01\x01\x0A" "\x2B\x06\x01\x02\x01\x10\x05\x02" "\x2B\x06\x01\x02\x01\x10\x05\x02\x01"
+    "\x2B\x06\x01\x02\x01\x10\x05\x02\x01\x01" "\x2B\x06\x01\x02\x01\x10\x05\x02\x01\x02"
+    "\x2B\x06\x01\x02\x01\x10\x05\x02\x01\x03" "\x2B\x06\x01\x02\x01\x10\x05\x02\x01\x04" "\x2B\x06\x01\x02\x01\x10\x06"
+    "\x2B\x06\x01\x02\x01\x10\x06\x01" "\x2B\x06\x01\x02\x01\x10\x06\x01\x01" "\x2B\x06\x01\x02\x01\x10\x06\x01\x01\x01"
     "\x2B\x06\x01\x02\x01\x10\x06\x01\x01\x02" "\x2B\x06\x01\x02\x01\x10\x06\x01\x01\x03"
     "\x2B\x06\x01\x02\x01\x10\x06\x01\x01\x04" "\x2B\x06\x01\x02\x01\x10\x06\x01\x01\x05"
     "\x2B\x06\x01\x02\x01\x10\x06\x01\x01\x06" "\x2B\x06\x01\x02\x01\x10\x06\x02" "\x2B\x06\x01\x02\x01\x10\x06\x02\x01"
@@ -695,9 +693,9 @@ CONST_OID_TABLE const uint8_t const_oid_common_bytes[][512] = {
     "\x2B\x06\x01\x02\x01\x10\x07\x01\x01\x0A" "\x2B\x06\x01\x02\x01\x10\x07\x01\x01\x0B"
     "\x2B\x06\x01\x02\x01\x10\x07\x02" "\x2B\x06\x01\x02\x01\x10\x07\x02\x01" "\x2B\x06\x01\x02\x01\x10\x07\x02\x01\x01"
     "\x2B\x06\x01\x02\x01\x10\x07\x02\x01\x02" "\x2B\x06\x01\x02\x01\x10\x07\x02\x01\x03"
-    "\x2B\x06\x01\x02\x01\x10\x07\x02\x01\x04" "\x2B\x06\x01\x02\x01\x10\x07\x02\x01\x05"
+    "\x2B\x06\x01\x02\x01\x10\x07\x02\x01\x04", "\x2B\x06\x01\x02\x01\x10\x07\x02\x01\x05"
     "\x2B\x06\x01\x02\x01\x10\x07\x02\x01\x06" "\x2B\x06\x01\x02\x01\x10\x07\x02\x01\x07"
-    "\x2B\x06\x01\x02\x01\x10\x07\x02\x01\x08", "\x2B\x06\x01\x02\x01\x10\x07\x02\x01\x09"
+    "\x2B\x06\x01\x02\x01\x10\x07\x02\x01\x08" "\x2B\x06\x01\x02\x01\x10\x07\x02\x01\x09"
     "\x2B\x06\x01\x02\x01\x10\x07\x02\x01\x0A" "\x2B\x06\x01\x02\x01\x10\x07\x02\x01\x0B"
     "\x2B\x06\x01\x02\x01\x10\x07\x02\x01\x0C" "\x2B\x06\x01\x02\x01\x10\x08" "\x2B\x06\x01\x02\x01\x10\x08\x01"
     "\x2B\x06\x01\x02\x01\x10\x08\x01\x01" "\x2B\x06\x01\x02\x01\x10\x08\x01\x01\x01"
@@ -718,9 +716,9 @@ CONST_OID_TABLE const uint8_t const_oid_common_bytes[][512] = {
     "\x2B\x06\x01\x02\x01\x10\x09\x02" "\x2B\x06\x01\x02\x01\x10\x09\x02\x01" "\x2B\x06\x01\x02\x01\x10\x09\x02\x01\x01"
     "\x2B\x06\x01\x02\x01\x10\x09\x02\x01\x02" "\x2B\x06\x01\x02\x01\x10\x09\x02\x01\x03"
     "\x2B\x06\x01\x02\x01\x10\x09\x02\x01\x04" "\x2B\x06\x01\x02\x01\x10\x14\x08" "\x2B\x06\x01\x02\x01\x11"
-    "\x2B\x06\x01\x02\x01\x11\x00" "\x2B\x06\x01\x02\x01\x11\x00\x01" "\x2B\x06\x01\x02\x01\x11\x00\x02"
+    "\x2B\x06\x01\x02\x01\x11\x00" "\x2B\x06\x01\x02\x01\x11\x00\x01" "\x2B\x06\x01\x02\x01\x11\x00\x02",
     "\x2B\x06\x01\x02\x01\x11\x01" "\x2B\x06\x01\x02\x01\x11\x01\x01" "\x2B\x06\x01\x02\x01\x11\x01\x02"
-    "\x2B\x06\x01\x02\x01\x11\x01\x03" "\x2B\x06\x01\x02\x01\x11\x01\x04", "\x2B\x06\x01\x02\x01\x11\x01\x04\x01"
+    "\x2B\x06\x01\x02\x01\x11\x01\x03" "\x2B\x06\x01\x02\x01\x11\x01\x04" "\x2B\x06\x01\x02\x01\x11\x01\x04\x01"
     "\x2B\x06\x01\x02\x01\x11\x01\x04\x01\x01" "\x2B\x06\x01\x02\x01\x11\x01\x04\x01\x02"
     "\x2B\x06\x01\x02\x01\x11\x01\x04\x01\x03" "\x2B\x06\x01\x02\x01\x11\x01\x04\x01\x04"
     "\x2B\x06\x01\x02\x01\x11\x01\x04\x01\x05" "\x2B\x06\x01\x02\x01\x11\x02" "\x2B\x06\x01\x02\x01\x11\x02\x01"
@@ -741,10 +739,10 @@ CONST_OID_TABLE const uint8_t const_oid_common_bytes[][512] = {
     "\x2B\x06\x01\x02\x01\x11\x04\x04" "\x2B\x06\x01\x02\x01\x11\x04\x04\x01" "\x2B\x06\x01\x02\x01\x11\x04\x04\x01\x01"
     "\x2B\x06\x01\x02\x01\x11\x04\x04\x01\x02" "\x2B\x06\x01\x02\x01\x11\x04\x04\x01\x03"
     "\x2B\x06\x01\x02\x01\x11\x04\x04\x01\x04" "\x2B\x06\x01\x02\x01\x11\x04\x04\x01\x05" "\x2B\x06\x01\x02\x01\x11\x05"
-    "\x2B\x06\x01\x02\x01\x11\x05\x01" "\x2B\x06\x01\x02\x01\x11\x05\x01\x01" "\x2B\x06\x01\x02\x01\x11\x05\x01\x01\x01"
-    "\x2B\x06\x01\x02\x01\x11\x05\x01\x01\x02" "\x2B\x06\x01\x02\x01\x11\x05\x01\x01\x03",
-    "\x2B\x06\x01\x02\x01\x11\x05\x01\x01\x04" "\x2B\x06\x01\x02\x01\x11\x07" "\x2B\x06\x01\x02\x01\x11\x07\x01"
-    "\x2B\x06\x01\x02\x01\x11\x07\x01\x01" "\x2B\x06\x01\x02\x01\x11\x07\x01\x01\x01"
+    "\x2B\x06\x01\x02\x01\x11\x05\x01", "\x2B\x06\x01\x02\x01\x11\x05\x01\x01"
+    "\x2B\x06\x01\x02\x01\x11\x05\x01\x01\x01" "\x2B\x06\x01\x02\x01\x11\x05\x01\x01\x02"
+    "\x2B\x06\x01\x02\x01\x11\x05\x01\x01\x03" "\x2B\x06\x01\x02\x01\x11\x05\x01\x01\x04" "\x2B\x06\x01\x02\x01\x11\x07"
+    "\x2B\x06\x01\x02\x01\x11\x07\x01" "\x2B\x06\x01\x02\x01\x11\x07\x01\x01" "\x2B\x06\x01\x02\x01\x11\x07\x01\x01\x01"
     "\x2B\x06\x01\x02\x01\x11\x07\x01\x01\x02" "\x2B\x06\x01\x02\x01\x11\x07\x01\x01\x03"
     "\x2B\x06\x01\x02\x01\x11\x07\x01\x01\x04" "\x2B\x06\x01\x02\x01\x11\x07\x01\x01\x05"
     "\x2B\x06\x01\x02\x01\x11\x07\x01\x02" "\x2B\x06\x01\x02\x01\x11\x07\x01\x02\x01"
@@ -763,9 +761,9 @@ CONST_OID_TABLE const uint8_t const_oid_common_bytes[][512] = {
     "\x2B\x06\x01\x02\x01\x11\x07\x01\x03\x01" "\x2B\x06\x01\x02\x01\x11\x07\x01\x03\x01\x01"
     "\x2B\x06\x01\x02\x01\x11\x07\x01\x03\x01\x01\x01" "\x2B\x06\x01\x02\x01\x11\x07\x01\x03\x01\x01\x02"
     "\x2B\x06\x01\x02\x01\x11\x07\x01\x03\x01\x01\x03" "\x2B\x06\x01\x02\x01\x11\x07\x01\x03\x01\x01\x04"
-    "\x2B\x06\x01\x02\x01\x11\x07\x01\x03\x02" "\x2B\x06\x01\x02\x01\x11\x07\x01\x03\x02\x01"
+    "\x2B\x06\x01\x02\x01\x11\x07\x01\x03\x02" "\x2B\x06\x01\x02\x01\x11\x07\x01\x03\x02\x01",
     "\x2B\x06\x01\x02\x01\x11\x07\x01\x03\x02\x01\x01" "\x2B\x06\x01\x02\x01\x11\x07\x01\x03\x02\x01\x02"
-    "\x2B\x06\x01\x02\x01\x11\x07\x01\x03\x02\x01\x03", "\x2B\x06\x01\x02\x01\x11\x07\x01\x03\x02\x01\x04"
+    "\x2B\x06\x01\x02\x01\x11\x07\x01\x03\x02\x01\x03" "\x2B\x06\x01\x02\x01\x11\x07\x01\x03\x02\x01\x04"
     "\x2B\x06\x01\x02\x01\x11\x07\x01\x03\x02\x01\x05" "\x2B\x06\x01\x02\x01\x11\x07\x01\x04"
     "\x2B\x06\x01\x02\x01\x11\x07\x01\x04\x01" "\x2B\x06\x01\x02\x01\x11\x07\x01\x04\x02"
     "\x2B\x06\x01\x02\x01\x11\x07\x01\x04\x02\x01" "\x2B\x06\x01\x02\x01\x11\x07\x01\x04\x02\x01\x01"
@@ -785,9 +783,9 @@ CONST_OID_TABLE const uint8_t const_oid_common_bytes[][512] = {
     "\x2B\x06\x01\x02\x01\x11\x07\x01\x04\x06\x01\x02" "\x2B\x06\x01\x02\x01\x11\x07\x01\x04\x06\x01\x03"
     "\x2B\x06\x01\x02\x01\x11\x07\x01\x04\x06\x01\x04" "\x2B\x06\x01\x02\x01\x11\x07\x01\x04\x06\x01\x05"
     "\x2B\x06\x01\x02\x01\x11\x07\x01\x04\x06\x01\x06" "\x2B\x06\x01\x02\x01\x11\x07\x01\x04\x07"
-    "\x2B\x06\x01\x02\x01\x11\x07\x01\x04\x07\x01" "\x2B\x06\x01\x02\x01\x11\x07\x01\x04\x07\x01\x01"
+    "\x2B\x06\x01\x02\x01\x11\x07\x01\x04\x07\x01" "\x2B\x06\x01\x02\x01\x11\x07\x01\x04\x07\x01\x01",
     "\x2B\x06\x01\x02\x01\x11\x07\x01\x04\x07\x01\x02" "\x2B\x06\x01\x02\x01\x11\x07\x01\x04\x07\x01\x03"
-    "\x2B\x06\x01\x02\x01\x11\x07\x01\x04\x08", "\x2B\x06\x01\x02\x01\x11\x07\x01\x04\x08\x01"
+    "\x2B\x06\x01\x02\x01\x11\x07\x01\x04\x08" "\x2B\x06\x01\x02\x01\x11\x07\x01\x04\x08\x01"
     "\x2B\x06\x01\x02\x01\x11\x07\x01\x04\x08\x01\x01" "\x2B\x06\x01\x02\x01\x11\x07\x01\x04\x08\x01\x02"
     "\x2B\x06\x01\x02\x01\x11\x07\x01\x04\x08\x01\x03" "\x2B\x06\x01\x02\x01\x11\x07\x01\x04\x08\x01\x04"
     "\x2B\x06\x01\x02\x01\x11\x07\x01\x04\x09" "\x2B\x06\x01\x02\x01\x11\x07\x01\x04\x0A"
@@ -808,30 +806,30 @@ CONST_OID_TABLE const uint8_t const_oid_common_bytes[][512] = {
     "\x2B\x06\x01\x02\x01\x19\x03\x01" "\x2B\x06\x01\x02\x01\x19\x03\x02" "\x2B\x06\x01\x02\x01\x19\x03\x02\x01"
     "\x2B\x06\x01\x02\x01\x19\x03\x02\x01\x01" "\x2B\x06\x01\x02\x01\x19\x03\x02\x01\x02"
     "\x2B\x06\x01\x02\x01\x19\x03\x02\x01\x03" "\x2B\x06\x01\x02\x01\x19\x03\x02\x01\x04"
-    "\x2B\x06\x01\x02\x01\x19\x03\x02\x01\x05" "\x2B\x06\x01\x02\x01\x19\x03\x02\x01\x06"
-    "\x2B\x06\x01\x02\x01\x19\x03\x03" "\x2B\x06\x01\x02\x01\x19\x03\x03\x01",
-    "\x2B\x06\x01\x02\x01\x19\x03\x03\x01\x01" "\x2B\x06\x01\x02\x01\x19\x03\x03\x01\x02"
-    "\x2B\x06\x01\x02\x01\x19\x03\x04" "\x2B\x06\x01\x02\x01\x19\x03\x04\x01" "\x2B\x06\x01\x02\x01\x19\x03\x04\x01\x01"
-    "\x2B\x06\x01\x02\x01\x19\x03\x05" "\x2B\x06\x01\x02\x01\x19\x03\x05\x01" "\x2B\x06\x01\x02\x01\x19\x03\x05\x01\x01"
-    "\x2B\x06\x01\x02\x01\x19\x03\x05\x01\x02" "\x2B\x06\x01\x02\x01\x19\x03\x06" "\x2B\x06\x01\x02\x01\x19\x03\x06\x01"
-    "\x2B\x06\x01\x02\x01\x19\x03\x06\x01\x01" "\x2B\x06\x01\x02\x01\x19\x03\x06\x01\x02"
-    "\x2B\x06\x01\x02\x01\x19\x03\x06\x01\x03" "\x2B\x06\x01\x02\x01\x19\x03\x06\x01\x04"
-    "\x2B\x06\x01\x02\x01\x19\x03\x07" "\x2B\x06\x01\x02\x01\x19\x03\x07\x01" "\x2B\x06\x01\x02\x01\x19\x03\x07\x01\x01"
-    "\x2B\x06\x01\x02\x01\x19\x03\x07\x01\x02" "\x2B\x06\x01\x02\x01\x19\x03\x07\x01\x03"
-    "\x2B\x06\x01\x02\x01\x19\x03\x07\x01\x04" "\x2B\x06\x01\x02\x01\x19\x03\x07\x01\x05"
-    "\x2B\x06\x01\x02\x01\x19\x03\x08" "\x2B\x06\x01\x02\x01\x19\x03\x08\x01" "\x2B\x06\x01\x02\x01\x19\x03\x08\x01\x01"
-    "\x2B\x06\x01\x02\x01\x19\x03\x08\x01\x02" "\x2B\x06\x01\x02\x01\x19\x03\x08\x01\x03"
-    "\x2B\x06\x01\x02\x01\x19\x03\x08\x01\x04" "\x2B\x06\x01\x02\x01\x19\x03\x08\x01\x05"
-    "\x2B\x06\x01\x02\x01\x19\x03\x08\x01\x06" "\x2B\x06\x01\x02\x01\x19\x03\x08\x01\x07"
-    "\x2B\x06\x01\x02\x01\x19\x03\x08\x01\x08" "\x2B\x06\x01\x02\x01\x19\x03\x08\x01\x09"
-    "\x2B\x06\x01\x02\x01\x19\x03\x09" "\x2B\x06\x01\x02\x01\x19\x04" "\x2B\x06\x01\x02\x01\x19\x04\x01"
-    "\x2B\x06\x01\x02\x01\x19\x04\x02" "\x2B\x06\x01\x02\x01\x19\x04\x02\x01" "\x2B\x06\x01\x02\x01\x19\x04\x02\x01\x01"
-    "\x2B\x06\x01\x02\x01\x19\x04\x02\x01\x02" "\x2B\x06\x01\x02\x01\x19\x04\x02\x01\x03"
-    "\x2B\x06\x01\x02\x01\x19\x04\x02\x01\x04" "\x2B\x06\x01\x02\x01\x19\x04\x02\x01\x05"
-    "\x2B\x06\x01\x02\x01\x19\x04\x02\x01\x06" "\x2B\x06\x01\x02\x01\x19\x04\x02\x01\x07" "\x2B\x06\x01\x02\x01\x19\x05"
-    "\x2B\x06\x01\x02\x01\x19\x05\x01" "\x2B\x06\x01\x02\x01\x19\x05\x01\x01" "\x2B\x06\x01\x02\x01\x19\x05\x01\x01\x01"
-    "\x2B\x06\x01\x02\x01\x19\x05\x01\x01\x02" "\x2B\x06\x01\x02\x01\x19\x06" "\x2B\x06\x01\x02\x01\x19\x06\x01"
-    "\x2B\x06\x01\x02\x01\x19\x06\x02" "\x2B\x06\x01\x02\x01\x19\x06\x03" "\x2B\x06\x01\x02\x01\x19\x06\x03\x01",
+    "\x2B\x06\x01\x02\x01\x19\x03\x02\x01\x05", "\x2B\x06\x01\x02\x01\x19\x03\x02\x01\x06"
+    "\x2B\x06\x01\x02\x01\x19\x03\x03" "\x2B\x06\x01\x02\x01\x19\x03\x03\x01" "\x2B\x06\x01\x02\x01\x19\x03\x03\x01\x01"
+    "\x2B\x06\x01\x02\x01\x19\x03\x03\x01\x02" "\x2B\x06\x01\x02\x01\x19\x03\x04" "\x2B\x06\x01\x02\x01\x19\x03\x04\x01"
+    "\x2B\x06\x01\x02\x01\x19\x03\x04\x01\x01" "\x2B\x06\x01\x02\x01\x19\x03\x05" "\x2B\x06\x01\x02\x01\x19\x03\x05\x01"
+    "\x2B\x06\x01\x02\x01\x19\x03\x05\x01\x01" "\x2B\x06\x01\x02\x01\x19\x03\x05\x01\x02"
+    "\x2B\x06\x01\x02\x01\x19\x03\x06" "\x2B\x06\x01\x02\x01\x19\x03\x06\x01" "\x2B\x06\x01\x02\x01\x19\x03\x06\x01\x01"
+    "\x2B\x06\x01\x02\x01\x19\x03\x06\x01\x02" "\x2B\x06\x01\x02\x01\x19\x03\x06\x01\x03"
+    "\x2B\x06\x01\x02\x01\x19\x03\x06\x01\x04" "\x2B\x06\x01\x02\x01\x19\x03\x07" "\x2B\x06\x01\x02\x01\x19\x03\x07\x01"
+    "\x2B\x06\x01\x02\x01\x19\x03\x07\x01\x01" "\x2B\x06\x01\x02\x01\x19\x03\x07\x01\x02"
+    "\x2B\x06\x01\x02\x01\x19\x03\x07\x01\x03" "\x2B\x06\x01\x02\x01\x19\x03\x07\x01\x04"
+    "\x2B\x06\x01\x02\x01\x19\x03\x07\x01\x05" "\x2B\x06\x01\x02\x01\x19\x03\x08" "\x2B\x06\x01\x02\x01\x19\x03\x08\x01"
+    "\x2B\x06\x01\x02\x01\x19\x03\x08\x01\x01" "\x2B\x06\x01\x02\x01\x19\x03\x08\x01\x02"
+    "\x2B\x06\x01\x02\x01\x19\x03\x08\x01\x03" "\x2B\x06\x01\x02\x01\x19\x03\x08\x01\x04"
+    "\x2B\x06\x01\x02\x01\x19\x03\x08\x01\x05" "\x2B\x06\x01\x02\x01\x19\x03\x08\x01\x06"
+    "\x2B\x06\x01\x02\x01\x19\x03\x08\x01\x07" "\x2B\x06\x01\x02\x01\x19\x03\x08\x01\x08"
+    "\x2B\x06\x01\x02\x01\x19\x03\x08\x01\x09" "\x2B\x06\x01\x02\x01\x19\x03\x09" "\x2B\x06\x01\x02\x01\x19\x04"
+    "\x2B\x06\x01\x02\x01\x19\x04\x01" "\x2B\x06\x01\x02\x01\x19\x04\x02" "\x2B\x06\x01\x02\x01\x19\x04\x02\x01"
+    "\x2B\x06\x01\x02\x01\x19\x04\x02\x01\x01" "\x2B\x06\x01\x02\x01\x19\x04\x02\x01\x02"
+    "\x2B\x06\x01\x02\x01\x19\x04\x02\x01\x03" "\x2B\x06\x01\x02\x01\x19\x04\x02\x01\x04"
+    "\x2B\x06\x01\x02\x01\x19\x04\x02\x01\x05" "\x2B\x06\x01\x02\x01\x19\x04\x02\x01\x06"
+    "\x2B\x06\x01\x02\x01\x19\x04\x02\x01\x07" "\x2B\x06\x01\x02\x01\x19\x05" "\x2B\x06\x01\x02\x01\x19\x05\x01"
+    "\x2B\x06\x01\x02\x01\x19\x05\x01\x01" "\x2B\x06\x01\x02\x01\x19\x05\x01\x01\x01"
+    "\x2B\x06\x01\x02\x01\x19\x05\x01\x01\x02" "\x2B\x06\x01\x02\x01\x19\x06", "\x2B\x06\x01\x02\x01\x19\x06\x01"
+    "\x2B\x06\x01\x02\x01\x19\x06\x02" "\x2B\x06\x01\x02\x01\x19\x06\x03" "\x2B\x06\x01\x02\x01\x19\x06\x03\x01"
     "\x2B\x06\x01\x02\x01\x19\x06\x03\x01\x01" "\x2B\x06\x01\x02\x01\x19\x06\x03\x01\x02"
     "\x2B\x06\x01\x02\x01\x19\x06\x03\x01\x03" "\x2B\x06\x01\x02\x01\x19\x06\x03\x01\x04"
     "\x2B\x06\x01\x02\x01\x19\x06\x03\x01\x05" "\x2B\x06\x01\x02\x01\x19\x07" "\x2B\x06\x01\x02\x01\x19\x07\x01"
@@ -853,30 +851,29 @@ CONST_OID_TABLE const uint8_t const_oid_common_bytes[][512] = {
     "\x2B\x06\x01\x02\x01\x1F\x01\x02\x01\x02" "\x2B\x06\x01\x02\x01\x1F\x01\x02\x01\x03"
     "\x2B\x06\x01\x02\x01\x1F\x01\x03" "\x2B\x06\x01\x02\x01\x1F\x01\x03\x01" "\x2B\x06\x01\x02\x01\x1F\x01\x03\x01\x01"
     "\x2B\x06\x01\x02\x01\x1F\x01\x03\x01\x02" "\x2B\x06\x01\x02\x01\x1F\x01\x03\x01\x03"
-    "\x2B\x06\x01\x02\x01\x1F\x01\x03\x01\x04" "\x2B\x06\x01\x02\x01\x1F\x01\x03\x01\x05"
-    "\x2B\x06\x01\x02\x01\x1F\x01\x03\x01\x06" "\x2B\x06\x01\x02\x01\x1F\x01\x04"
-    "\x2B\x06\x01\x02\x01\x1F\x01\x04\x01", "\x2B\x06\x01\x02\x01\x1F\x01\x04\x01\x01"
-    "\x2B\x06\x01\x02\x01\x1F\x01\x04\x01\x02" "\x2B\x06\x01\x02\x01\x1F\x01\x04\x01\x03"
-    "\x2B\x06\x01\x02\x01\x1F\x01\x05" "\x2B\x06\x01\x02\x01\x1F\x01\x06" "\x2B\x06\x01\x02\x01\x1F\x02"
-    "\x2B\x06\x01\x02\x01\x1F\x02\x01" "\x2B\x06\x01\x02\x01\x1F\x02\x01\x01" "\x2B\x06\x01\x02\x01\x1F\x02\x01\x02"
-    "\x2B\x06\x01\x02\x01\x1F\x02\x01\x03" "\x2B\x06\x01\x02\x01\x1F\x02\x01\x04" "\x2B\x06\x01\x02\x01\x1F\x02\x01\x05"
-    "\x2B\x06\x01\x02\x01\x1F\x02\x01\x06" "\x2B\x06\x01\x02\x01\x1F\x02\x01\x07" "\x2B\x06\x01\x02\x01\x1F\x02\x01\x08"
-    "\x2B\x06\x01\x02\x01\x1F\x02\x01\x09" "\x2B\x06\x01\x02\x01\x1F\x02\x01\x0A" "\x2B\x06\x01\x02\x01\x1F\x02\x01\x0B"
-    "\x2B\x06\x01\x02\x01\x1F\x02\x01\x0C" "\x2B\x06\x01\x02\x01\x1F\x02\x01\x0D" "\x2B\x06\x01\x02\x01\x1F\x02\x01\x0E"
-    "\x2B\x06\x01\x02\x01\x1F\x02\x02" "\x2B\x06\x01\x02\x01\x1F\x02\x02\x01" "\x2B\x06\x01\x02\x01\x1F\x02\x02\x02"
-    "\x2B\x06\x01\x02\x01\x1F\x02\x02\x03" "\x2B\x06\x01\x02\x01\x21" "\x2B\x06\x01\x02\x01\x21\x01"
-    "\x2B\x06\x01\x02\x01\x21\x01\x01" "\x2B\x06\x01\x02\x01\x21\x01\x01\x01" "\x2B\x06\x01\x02\x01\x21\x01\x01\x02"
-    "\x2B\x06\x01\x02\x01\x21\x01\x01\x03" "\x2B\x06\x01\x02\x01\x21\x01\x01\x04" "\x2B\x06\x01\x02\x01\x21\x01\x01\x05"
-    "\x2B\x06\x01\x02\x01\x21\x01\x01\x06" "\x2B\x06\x01\x02\x01\x21\x01\x02" "\x2B\x06\x01\x02\x01\x21\x01\x02\x01"
-    "\x2B\x06\x01\x02\x01\x21\x01\x02\x02" "\x2B\x06\x01\x02\x01\x21\x01\x02\x03" "\x2B\x06\x01\x02\x01\x21\x01\x02\x04"
-    "\x2B\x06\x01\x02\x01\x21\x01\x02\x05" "\x2B\x06\x01\x02\x01\x21\x01\x02\x06" "\x2B\x06\x01\x02\x01\x21\x01\x02\x07"
-    "\x2B\x06\x01\x02\x01\x21\x01\x03" "\x2B\x06\x01\x02\x01\x21\x01\x03\x01" "\x2B\x06\x01\x02\x01\x21\x01\x03\x02"
-    "\x2B\x06\x01\x02\x01\x21\x01\x03\x03" "\x2B\x06\x01\x02\x01\x21\x01\x03\x03\x01"
-    "\x2B\x06\x01\x02\x01\x21\x01\x03\x03\x01\x01" "\x2B\x06\x01\x02\x01\x21\x01\x03\x03\x01\x02"
-    "\x2B\x06\x01\x02\x01\x21\x01\x03\x03\x01\x03" "\x2B\x06\x01\x02\x01\x21\x01\x03\x03\x01\x04"
-    "\x2B\x06\x01\x02\x01\x21\x01\x03\x03\x01\x05" "\x2B\x06\x01\x02\x01\x21\x01\x04"
-    "\x2B\x06\x01\x02\x01\x21\x01\x04\x01" "\x2B\x06\x01\x02\x01\x21\x01\x04\x02"
-    "\x2B\x06\x01\x02\x01\x21\x01\x04\x03", "\x2B\x06\x01\x02\x01\x21\x01\x04\x04"
+    "\x2B\x06\x01\x02\x01\x1F\x01\x03\x01\x04", "\x2B\x06\x01\x02\x01\x1F\x01\x03\x01\x05"
+    "\x2B\x06\x01\x02\x01\x1F\x01\x03\x01\x06" "\x2B\x06\x01\x02\x01\x1F\x01\x04" "\x2B\x06\x01\x02\x01\x1F\x01\x04\x01"
+    "\x2B\x06\x01\x02\x01\x1F\x01\x04\x01\x01" "\x2B\x06\x01\x02\x01\x1F\x01\x04\x01\x02"
+    "\x2B\x06\x01\x02\x01\x1F\x01\x04\x01\x03" "\x2B\x06\x01\x02\x01\x1F\x01\x05" "\x2B\x06\x01\x02\x01\x1F\x01\x06"
+    "\x2B\x06\x01\x02\x01\x1F\x02" "\x2B\x06\x01\x02\x01\x1F\x02\x01" "\x2B\x06\x01\x02\x01\x1F\x02\x01\x01"
+    "\x2B\x06\x01\x02\x01\x1F\x02\x01\x02" "\x2B\x06\x01\x02\x01\x1F\x02\x01\x03" "\x2B\x06\x01\x02\x01\x1F\x02\x01\x04"
+    "\x2B\x06\x01\x02\x01\x1F\x02\x01\x05" "\x2B\x06\x01\x02\x01\x1F\x02\x01\x06" "\x2B\x06\x01\x02\x01\x1F\x02\x01\x07"
+    "\x2B\x06\x01\x02\x01\x1F\x02\x01\x08" "\x2B\x06\x01\x02\x01\x1F\x02\x01\x09" "\x2B\x06\x01\x02\x01\x1F\x02\x01\x0A"
+    "\x2B\x06\x01\x02\x01\x1F\x02\x01\x0B" "\x2B\x06\x01\x02\x01\x1F\x02\x01\x0C" "\x2B\x06\x01\x02\x01\x1F\x02\x01\x0D"
+    "\x2B\x06\x01\x02\x01\x1F\x02\x01\x0E" "\x2B\x06\x01\x02\x01\x1F\x02\x02" "\x2B\x06\x01\x02\x01\x1F\x02\x02\x01"
+    "\x2B\x06\x01\x02\x01\x1F\x02\x02\x02" "\x2B\x06\x01\x02\x01\x1F\x02\x02\x03" "\x2B\x06\x01\x02\x01\x21"
+    "\x2B\x06\x01\x02\x01\x21\x01" "\x2B\x06\x01\x02\x01\x21\x01\x01" "\x2B\x06\x01\x02\x01\x21\x01\x01\x01"
+    "\x2B\x06\x01\x02\x01\x21\x01\x01\x02" "\x2B\x06\x01\x02\x01\x21\x01\x01\x03" "\x2B\x06\x01\x02\x01\x21\x01\x01\x04"
+    "\x2B\x06\x01\x02\x01\x21\x01\x01\x05" "\x2B\x06\x01\x02\x01\x21\x01\x01\x06" "\x2B\x06\x01\x02\x01\x21\x01\x02"
+    "\x2B\x06\x01\x02\x01\x21\x01\x02\x01" "\x2B\x06\x01\x02\x01\x21\x01\x02\x02" "\x2B\x06\x01\x02\x01\x21\x01\x02\x03"
+    "\x2B\x06\x01\x02\x01\x21\x01\x02\x04" "\x2B\x06\x01\x02\x01\x21\x01\x02\x05" "\x2B\x06\x01\x02\x01\x21\x01\x02\x06"
+    "\x2B\x06\x01\x02\x01\x21\x01\x02\x07" "\x2B\x06\x01\x02\x01\x21\x01\x03" "\x2B\x06\x01\x02\x01\x21\x01\x03\x01"
+    "\x2B\x06\x01\x02\x01\x21\x01\x03\x02" "\x2B\x06\x01\x02\x01\x21\x01\x03\x03"
+    "\x2B\x06\x01\x02\x01\x21\x01\x03\x03\x01" "\x2B\x06\x01\x02\x01\x21\x01\x03\x03\x01\x01"
+    "\x2B\x06\x01\x02\x01\x21\x01\x03\x03\x01\x02" "\x2B\x06\x01\x02\x01\x21\x01\x03\x03\x01\x03"
+    "\x2B\x06\x01\x02\x01\x21\x01\x03\x03\x01\x04" "\x2B\x06\x01\x02\x01\x21\x01\x03\x03\x01\x05",
+    "\x2B\x06\x01\x02\x01\x21\x01\x04" "\x2B\x06\x01\x02\x01\x21\x01\x04\x01" "\x2B\x06\x01\x02\x01\x21\x01\x04\x02"
+    "\x2B\x06\x01\x02\x01\x21\x01\x04\x03" "\x2B\x06\x01\x02\x01\x21\x01\x04\x04"
     "\x2B\x06\x01\x02\x01\x21\x01\x04\x04\x01" "\x2B\x06\x01\x02\x01\x21\x01\x04\x04\x01\x01"
     "\x2B\x06\x01\x02\x01\x21\x01\x04\x04\x01\x02" "\x2B\x06\x01\x02\x01\x21\x01\x04\x04\x01\x03"
     "\x2B\x06\x01\x02\x01\x21\x01\x04\x04\x01\x04" "\x2B\x06\x01\x02\x01\x21\x01\x04\x04\x01\x05"
@@ -898,32 +895,31 @@ CONST_OID_TABLE const uint8_t const_oid_common_bytes[][512] = {
     "\x2B\x06\x01\x02\x01\x21\x01\x06\x03\x10" "\x2B\x06\x01\x02\x01\x21\x01\x06\x03\x11"
     "\x2B\x06\x01\x02\x01\x21\x01\x06\x03\x12" "\x2B\x06\x01\x02\x01\x21\x01\x06\x03\x13"
     "\x2B\x06\x01\x02\x01\x21\x01\x06\x03\x14" "\x2B\x06\x01\x02\x01\x21\x01\x06\x03\x15"
-    "\x2B\x06\x01\x02\x01\x21\x01\x06\x03\x16" "\x2B\x06\x01\x02\x01\x21\x01\x06\x03\x17"
+    "\x2B\x06\x01\x02\x01\x21\x01\x06\x03\x16" "\x2B\x06\x01\x02\x01\x21\x01\x06\x03\x17",
     "\x2B\x06\x01\x02\x01\x21\x01\x06\x03\x18" "\x2B\x06\x01\x02\x01\x21\x01\x07" "\x2B\x06\x01\x02\x01\x21\x01\x07\x01"
-    "\x2B\x06\x01\x02\x01\x21\x01\x07\x02", "\x2B\x06\x01\x02\x01\x21\x01\x07\x03"
-    "\x2B\x06\x01\x02\x01\x21\x01\x07\x04" "\x2B\x06\x01\x02\x01\x21\x01\x07\x05" "\x2B\x06\x01\x02\x01\x21\x01\x07\x06"
-    "\x2B\x06\x01\x02\x01\x21\x01\x07\x07" "\x2B\x06\x01\x02\x01\x21\x01\x07\x07\x01"
-    "\x2B\x06\x01\x02\x01\x21\x01\x07\x07\x02" "\x2B\x06\x01\x02\x01\x21\x01\x07\x07\x03"
-    "\x2B\x06\x01\x02\x01\x21\x01\x07\x07\x04" "\x2B\x06\x01\x02\x01\x21\x01\x07\x07\x05"
-    "\x2B\x06\x01\x02\x01\x21\x01\x08" "\x2B\x06\x01\x02\x01\x21\x01\x08\x01" "\x2B\x06\x01\x02\x01\x21\x01\x08\x02"
-    "\x2B\x06\x01\x02\x01\x21\x01\x08\x03" "\x2B\x06\x01\x02\x01\x21\x01\x08\x04" "\x2B\x06\x01\x02\x01\x21\x01\x08\x05"
-    "\x2B\x06\x01\x02\x01\x21\x01\x09" "\x2B\x06\x01\x02\x01\x21\x01\x09\x01" "\x2B\x06\x01\x02\x01\x21\x01\x09\x02"
-    "\x2B\x06\x01\x02\x01\x21\x01\x09\x03" "\x2B\x06\x01\x02\x01\x21\x01\x09\x04" "\x2B\x06\x01\x02\x01\x21\x01\x09\x05"
-    "\x2B\x06\x01\x02\x01\x21\x01\x09\x06" "\x2B\x06\x01\x02\x01\x21\x01\x09\x07" "\x2B\x06\x01\x02\x01\x21\x01\x09\x08"
-    "\x2B\x06\x01\x02\x01\x21\x01\x09\x09" "\x2B\x06\x01\x02\x01\x21\x01\x09\x0A" "\x2B\x06\x01\x02\x01\x21\x02"
-    "\x2B\x06\x01\x02\x01\x21\x02\x01" "\x2B\x06\x01\x02\x01\x21\x02\x02" "\x2B\x06\x01\x02\x01\x21\x02\x03"
-    "\x2B\x06\x01\x02\x01\x21\x02\x04" "\x2B\x06\x01\x02\x01\x23" "\x2B\x06\x01\x02\x01\x23\x01"
-    "\x2B\x06\x01\x02\x01\x2B" "\x2B\x06\x01\x02\x01\x2B\x05" "\x2B\x06\x01\x02\x01\x2B\x05\x01"
-    "\x2B\x06\x01\x02\x01\x2B\x05\x01\x01" "\x2B\x06\x01\x02\x01\x2B\x05\x01\x01\x01"
+    "\x2B\x06\x01\x02\x01\x21\x01\x07\x02" "\x2B\x06\x01\x02\x01\x21\x01\x07\x03" "\x2B\x06\x01\x02\x01\x21\x01\x07\x04"
+    "\x2B\x06\x01\x02\x01\x21\x01\x07\x05" "\x2B\x06\x01\x02\x01\x21\x01\x07\x06" "\x2B\x06\x01\x02\x01\x21\x01\x07\x07"
+    "\x2B\x06\x01\x02\x01\x21\x01\x07\x07\x01" "\x2B\x06\x01\x02\x01\x21\x01\x07\x07\x02"
+    "\x2B\x06\x01\x02\x01\x21\x01\x07\x07\x03" "\x2B\x06\x01\x02\x01\x21\x01\x07\x07\x04"
+    "\x2B\x06\x01\x02\x01\x21\x01\x07\x07\x05" "\x2B\x06\x01\x02\x01\x21\x01\x08" "\x2B\x06\x01\x02\x01\x21\x01\x08\x01"
+    "\x2B\x06\x01\x02\x01\x21\x01\x08\x02" "\x2B\x06\x01\x02\x01\x21\x01\x08\x03" "\x2B\x06\x01\x02\x01\x21\x01\x08\x04"
+    "\x2B\x06\x01\x02\x01\x21\x01\x08\x05" "\x2B\x06\x01\x02\x01\x21\x01\x09" "\x2B\x06\x01\x02\x01\x21\x01\x09\x01"
+    "\x2B\x06\x01\x02\x01\x21\x01\x09\x02" "\x2B\x06\x01\x02\x01\x21\x01\x09\x03" "\x2B\x06\x01\x02\x01\x21\x01\x09\x04"
+    "\x2B\x06\x01\x02\x01\x21\x01\x09\x05" "\x2B\x06\x01\x02\x01\x21\x01\x09\x06" "\x2B\x06\x01\x02\x01\x21\x01\x09\x07"
+    "\x2B\x06\x01\x02\x01\x21\x01\x09\x08" "\x2B\x06\x01\x02\x01\x21\x01\x09\x09" "\x2B\x06\x01\x02\x01\x21\x01\x09\x0A"
+    "\x2B\x06\x01\x02\x01\x21\x02" "\x2B\x06\x01\x02\x01\x21\x02\x01" "\x2B\x06\x01\x02\x01\x21\x02\x02"
+    "\x2B\x06\x01\x02\x01\x21\x02\x03" "\x2B\x06\x01\x02\x01\x21\x02\x04" "\x2B\x06\x01\x02\x01\x23"
+    "\x2B\x06\x01\x02\x01\x23\x01" "\x2B\x06\x01\x02\x01\x2B" "\x2B\x06\x01\x02\x01\x2B\x05"
+    "\x2B\x06\x01\x02\x01\x2B\x05\x01" "\x2B\x06\x01\x02\x01\x2B\x05\x01\x01" "\x2B\x06\x01\x02\x01\x2B\x05\x01\x01\x01"
     "\x2B\x06\x01\x02\x01\x2B\x05\x01\x01\x02" "\x2B\x06\x01\x02\x01\x2B\x05\x01\x01\x03"
     "\x2B\x06\x01\x02\x01\x2B\x05\x01\x01\x04" "\x2B\x06\x01\x02\x01\x2B\x05\x01\x01\x05"
     "\x2B\x06\x01\x02\x01\x2B\x05\x01\x01\x06" "\x2B\x06\x01\x02\x01\x2B\x05\x01\x01\x07"
     "\x2B\x06\x01\x02\x01\x2B\x05\x01\x01\x08" "\x2B\x06\x01\x02\x01\x2B\x05\x01\x01\x09"
     "\x2B\x06\x01\x02\x01\x2B\x05\x01\x01\x0A" "\x2B\x06\x01\x02\x01\x2B\x05\x01\x01\x0B"
     "\x2B\x06\x01\x02\x01\x2B\x05\x01\x01\x0C" "\x2B\x06\x01\x02\x01\x2B\x05\x01\x01\x0D"
-    "\x2B\x06\x01\x02\x01\x2B\x05\x01\x01\x0E" "\x2B\x06\x01\x02\x01\x2B\x05\x01\x01\x0F"
+    "\x2B\x06\x01\x02\x01\x2B\x05\x01\x01\x0E", "\x2B\x06\x01\x02\x01\x2B\x05\x01\x01\x0F"
     "\x2B\x06\x01\x02\x01\x2B\x05\x01\x01\x10" "\x2B\x06\x01\x02\x01\x2B\x05\x01\x01\x11"
-    "\x2B\x06\x01\x02\x01\x2B\x05\x01\x01\x12", "\x2B\x06\x01\x02\x01\x2B\x05\x01\x01\x13"
+    "\x2B\x06\x01\x02\x01\x2B\x05\x01\x01\x12" "\x2B\x06\x01\x02\x01\x2B\x05\x01\x01\x13"
     "\x2B\x06\x01\x02\x01\x2B\x05\x02" "\x2B\x06\x01\x02\x01\x2B\x05\x02\x01" "\x2B\x06\x01\x02\x01\x2B\x05\x02\x01\x01"
     "\x2B\x06\x01\x02\x01\x2B\x05\x02\x01\x02" "\x2B\x06\x01\x02\x01\x2B\x05\x03" "\x2B\x06\x01\x02\x01\x2B\x05\x03\x01"
     "\x2B\x06\x01\x02\x01\x2B\x05\x03\x01\x01" "\x2B\x06\x01\x02\x01\x2B\x05\x03\x01\x02" "\x2B\x06\x01\x02\x01\x2B\x06"
@@ -944,8 +940,8 @@ CONST_OID_TABLE const uint8_t const_oid_common_bytes[][512] = {
     "\x2B\x06\x01\x02\x01\x2B\x08\x02\x01\x12" "\x2B\x06\x01\x02\x01\x2B\x08\x02\x01\x13"
     "\x2B\x06\x01\x02\x01\x2B\x08\x02\x01\x14" "\x2B\x06\x01\x02\x01\x2B\x08\x02\x01\x15"
     "\x2B\x06\x01\x02\x01\x2B\x08\x02\x01\x16" "\x2B\x06\x01\x02\x01\x2B\x08\x02\x01\x17"
-    "\x2B\x06\x01\x02\x01\x2B\x08\x02\x01\x18" "\x2B\x06\x01\x02\x01\x2B\x08\x02\x01\x19" "\x2B\x06\x01\x02\x01\x2B\x09"
-    "\x2B\x06\x01\x02\x01\x2B\x09\x02" "\x2B\x06\x01\x02\x01\x2B\x09\x02\x01",
+    "\x2B\x06\x01\x02\x01\x2B\x08\x02\x01\x18", "\x2B\x06\x01\x02\x01\x2B\x08\x02\x01\x19"
+    "\x2B\x06\x01\x02\x01\x2B\x09" "\x2B\x06\x01\x02\x01\x2B\x09\x02" "\x2B\x06\x01\x02\x01\x2B\x09\x02\x01"
     "\x2B\x06\x01\x02\x01\x2B\x09\x02\x01\x01" "\x2B\x06\x01\x02\x01\x2B\x09\x02\x01\x02"
     "\x2B\x06\x01\x02\x01\x2B\x09\x02\x01\x03" "\x2B\x06\x01\x02\x01\x2B\x09\x02\x01\x04"
     "\x2B\x06\x01\x02\x01\x2B\x09\x02\x01\x05" "\x2B\x06\x01\x02\x01\x2B\x09\x02\x01\x06"
@@ -967,9 +963,9 @@ CONST_OID_TABLE const uint8_t const_oid_common_bytes[][512] = {
     "\x2B\x06\x01\x02\x01\x2B\x0A\x02\x01\x0C" "\x2B\x06\x01\x02\x01\x2B\x0A\x02\x01\x0D"
     "\x2B\x06\x01\x02\x01\x2B\x0A\x02\x01\x0E" "\x2B\x06\x01\x02\x01\x2B\x0A\x02\x01\x0F" "\x2B\x06\x01\x02\x01\x2B\x0B"
     "\x2B\x06\x01\x02\x01\x2B\x0B\x01" "\x2B\x06\x01\x02\x01\x2B\x0B\x01\x01" "\x2B\x06\x01\x02\x01\x2B\x0B\x01\x01\x01"
-    "\x2B\x06\x01\x02\x01\x2B\x0B\x01\x01\x02" "\x2B\x06\x01\x02\x01\x2B\x0B\x01\x01\x03"
+    "\x2B\x06\x01\x02\x01\x2B\x0B\x01\x01\x02" "\x2B\x06\x01\x02\x01\x2B\x0B\x01\x01\x03",
     "\x2B\x06\x01\x02\x01\x2B\x0B\x01\x01\x04" "\x2B\x06\x01\x02\x01\x2B\x0B\x01\x01\x05"
-    "\x2B\x06\x01\x02\x01\x2B\x0B\x01\x01\x06" "\x2B\x06\x01\x02\x01\x2B\x0B\x01\x01\x07",
+    "\x2B\x06\x01\x02\x01\x2B\x0B\x01\x01\x06" "\x2B\x06\x01\x02\x01\x2B\x0B\x01\x01\x07"
     "\x2B\x06\x01\x02\x01\x2B\x0B\x01\x01\x08" "\x2B\x06\x01\x02\x01\x2B\x0B\x01\x01\x09" "\x2B\x06\x01\x02\x01\x2B\x0C"
     "\x2B\x06\x01\x02\x01\x2B\x0C\x01" "\x2B\x06\x01\x02\x01\x2B\x0C\x01\x01" "\x2B\x06\x01\x02\x01\x2B\x0C\x01\x01\x01"
     "\x2B\x06\x01\x02\x01\x2B\x0C\x01\x01\x02" "\x2B\x06\x01\x02\x01\x2B\x0C\x01\x01\x03"
@@ -990,8 +986,8 @@ CONST_OID_TABLE const uint8_t const_oid_common_bytes[][512] = {
     "\x2B\x06\x01\x02\x01\x2B\x0F\x01\x01\x04" "\x2B\x06\x01\x02\x01\x2B\x0F\x01\x01\x05"
     "\x2B\x06\x01\x02\x01\x2B\x0F\x01\x01\x06" "\x2B\x06\x01\x02\x01\x2B\x0F\x01\x01\x07"
     "\x2B\x06\x01\x02\x01\x2B\x0F\x01\x01\x08" "\x2B\x06\x01\x02\x01\x2B\x0F\x01\x01\x09"
-    "\x2B\x06\x01\x02\x01\x2B\x0F\x01\x01\x0A" "\x2B\x06\x01\x02\x01\x2B\x0F\x01\x01\x0B"
-    "\x2B\x06\x01\x02\x01\x2B\x0F\x01\x01\x0C" "\x2B\x06\x01\x02\x01\x2B\x10" "\x2B\x06\x01\x02\x01\x2B\x10\x05",
+    "\x2B\x06\x01\x02\x01\x2B\x0F\x01\x01\x0A", "\x2B\x06\x01\x02\x01\x2B\x0F\x01\x01\x0B"
+    "\x2B\x06\x01\x02\x01\x2B\x0F\x01\x01\x0C" "\x2B\x06\x01\x02\x01\x2B\x10" "\x2B\x06\x01\x02\x01\x2B\x10\x05"
     "\x2B\x06\x01\x02\x01\x2B\x10\x05\x01" "\x2B\x06\x01\x02\x01\x2B\x10\x05\x01\x01"
     "\x2B\x06\x01\x02\x01\x2B\x10\x05\x01\x02" "\x2B\x06\x01\x02\x01\x2B\x11" "\x2B\x06\x01\x02\x01\x2B\x11\x06"
     "\x2B\x06\x01\x02\x01\x2B\x11\x06\x01" "\x2B\x06\x01\x02\x01\x2B\x11\x06\x01\x01"
@@ -999,11 +995,12 @@ CONST_OID_TABLE const uint8_t const_oid_common_bytes[][512] = {
     "\x2B\x06\x01\x02\x01\x2B\x11\x06\x01\x04" "\x2B\x06\x01\x02\x01\x2B\x11\x06\x01\x05" "\x2B\x06\x01\x02\x01\x2B\x12"
     "\x2B\x06\x01\x02\x01\x2B\x12\x01" "\x2B\x06\x01\x02\x01\x2B\x12\x01\x01" "\x2B\x06\x01\x02\x01\x2B\x12\x01\x01\x01"
     "\x2B\x06\x01\x02\x01\x2B\x12\x01\x01\x02" "\x2B\x06\x01\x02\x01\x2B\x12\x01\x01\x03"
-    "\x2B\x06\x01\x02\x01\x2B\x12\x01\x01\x05" "\x2B\x06\x01\x02\x01\x2B\x12\x01\x01\x06"
-    "\x2B\x06\x01\x02\x01\x2B\x12\x01\x01\x07" "\x2B\x06\x01\x02\x01\x2B\x12\x01\x01\x08"
-    "\x2B\x06\x01\x02\x01\x2B\x12\x01\x01\x09" "\x2B\x06\x01\x02\x01\x2B\x12\x02" "\x2B\x06\x01\x02\x01\x2B\x12\x02\x00"
-    "\x2B\x06\x01\x02\x01\x2B\x12\x02\x00\x01" "\x2B\x06\x01\x02\x01\x2F" "\x2B\x06\x01\x02\x01\x2F\x01"
-    "\x2B\x06\x01\x02\x01\x2F\x01\x01" "\x2B\x06\x01\x02\x01\x2F\x01\x01\x01" "\x2B\x06\x01\x02\x01\x2F\x01\x01\x01\x01"
+    "\x2B\x06\x01\x02\x01\x2B\x12\x01\x01\x04" "\x2B\x06\x01\x02\x01\x2B\x12\x01\x01\x05"
+    "\x2B\x06\x01\x02\x01\x2B\x12\x01\x01\x06" "\x2B\x06\x01\x02\x01\x2B\x12\x01\x01\x07"
+    "\x2B\x06\x01\x02\x01\x2B\x12\x01\x01\x08" "\x2B\x06\x01\x02\x01\x2B\x12\x01\x01\x09"
+    "\x2B\x06\x01\x02\x01\x2B\x12\x02" "\x2B\x06\x01\x02\x01\x2B\x12\x02\x00" "\x2B\x06\x01\x02\x01\x2B\x12\x02\x00\x01"
+    "\x2B\x06\x01\x02\x01\x2F" "\x2B\x06\x01\x02\x01\x2F\x01" "\x2B\x06\x01\x02\x01\x2F\x01\x01"
+    "\x2B\x06\x01\x02\x01\x2F\x01\x01\x01" "\x2B\x06\x01\x02\x01\x2F\x01\x01\x01\x01"
     "\x2B\x06\x01\x02\x01\x2F\x01\x01\x01\x01\x01" "\x2B\x06\x01\x02\x01\x2F\x01\x01\x01\x01\x02"
     "\x2B\x06\x01\x02\x01\x2F\x01\x01\x01\x01\x03" "\x2B\x06\x01\x02\x01\x2F\x01\x01\x01\x01\x04"
     "\x2B\x06\x01\x02\x01\x2F\x01\x01\x01\x01\x05" "\x2B\x06\x01\x02\x01\x2F\x01\x01\x01\x01\x06"
@@ -1012,14 +1009,13 @@ CONST_OID_TABLE const uint8_t const_oid_common_bytes[][512] = {
     "\x2B\x06\x01\x02\x01\x2F\x01\x01\x01\x01\x0B" "\x2B\x06\x01\x02\x01\x2F\x01\x01\x01\x01\x0C"
     "\x2B\x06\x01\x02\x01\x2F\x01\x01\x01\x01\x0D" "\x2B\x06\x01\x02\x01\x2F\x01\x01\x01\x01\x0E"
     "\x2B\x06\x01\x02\x01\x2F\x01\x01\x01\x01\x0F" "\x2B\x06\x01\x02\x01\x2F\x01\x01\x01\x01\x10"
-    "\x2B\x06\x01\x02\x01\x2F\x01\x01\x01\x01\x11" "\x2B\x06\x01\x02\x01\x2F\x01\x01\x01\x01\x12"
-    "\x2B\x06\x01\x02\x01\x2F\x01\x02" "\x2B\x06\x01\x02\x01\x2F\x01\x02\x01"
-    "\x2B\x06\x01\x02\x01\x2F\x01\x02\x01\x01", "\x2B\x06\x01\x02\x01\x2F\x01\x02\x01\x01\x01"
-    "\x2B\x06\x01\x02\x01\x2F\x01\x02\x01\x01\x02" "\x2B\x06\x01\x02\x01\x2F\x01\x02\x01\x01\x03"
-    "\x2B\x06\x01\x02\x01\x2F\x01\x02\x01\x01\x04" "\x2B\x06\x01\x02\x01\x2F\x01\x02\x01\x01\x05"
-    "\x2B\x06\x01\x02\x01\x2F\x01\x02\x01\x01\x06" "\x2B\x06\x01\x02\x01\x2F\x01\x02\x01\x01\x07"
-    "\x2B\x06\x01\x02\x01\x2F\x01\x02\x01\x01\x08" "\x2B\x06\x01\x02\x01\x2F\x01\x03"
-    "\x2B\x06\x01\x02\x01\x2F\x01\x03\x01" "\x2B\x06\x01\x02\x01\x2F\x01\x03\x01\x01"
+    "\x2B\x06\x01\x02\x01\x2F\x01\x01\x01\x01\x11", "\x2B\x06\x01\x02\x01\x2F\x01\x01\x01\x01\x12"
+    "\x2B\x06\x01\x02\x01\x2F\x01\x02" "\x2B\x06\x01\x02\x01\x2F\x01\x02\x01" "\x2B\x06\x01\x02\x01\x2F\x01\x02\x01\x01"
+    "\x2B\x06\x01\x02\x01\x2F\x01\x02\x01\x01\x01" "\x2B\x06\x01\x02\x01\x2F\x01\x02\x01\x01\x02"
+    "\x2B\x06\x01\x02\x01\x2F\x01\x02\x01\x01\x03" "\x2B\x06\x01\x02\x01\x2F\x01\x02\x01\x01\x04"
+    "\x2B\x06\x01\x02\x01\x2F\x01\x02\x01\x01\x05" "\x2B\x06\x01\x02\x01\x2F\x01\x02\x01\x01\x06"
+    "\x2B\x06\x01\x02\x01\x2F\x01\x02\x01\x01\x07" "\x2B\x06\x01\x02\x01\x2F\x01\x02\x01\x01\x08"
+    "\x2B\x06\x01\x02\x01\x2F\x01\x03" "\x2B\x06\x01\x02\x01\x2F\x01\x03\x01" "\x2B\x06\x01\x02\x01\x2F\x01\x03\x01\x01"
     "\x2B\x06\x01\x02\x01\x2F\x01\x03\x01\x01\x01" "\x2B\x06\x01\x02\x01\x2F\x01\x03\x02"
     "\x2B\x06\x01\x02\x01\x2F\x01\x03\x02\x01" "\x2B\x06\x01\x02\x01\x2F\x01\x03\x02\x01\x01"
     "\x2B\x06\x01\x02\x01\x2F\x01\x03\x02\x01\x02" "\x2B\x06\x01\x02\x01\x2F\x01\x03\x03"
@@ -1034,101 +1030,101 @@ CONST_OID_TABLE const uint8_t const_oid_common_bytes[][512] = {
     "\x2B\x06\x01\x02\x01\x30\x02\x02\x0B" "\x2B\x06\x01\x02\x01\x30\x02\x02\x0C" "\x2B\x06\x01\x02\x01\x30\x02\x02\x0D"
     "\x2B\x06\x01\x02\x01\x30\x02\x02\x0E" "\x2B\x06\x01\x02\x01\x30\x02\x02\x0F" "\x2B\x06\x01\x02\x01\x30\x02\x02\x10"
     "\x2B\x06\x01\x02\x01\x30\x02\x02\x11" "\x2B\x06\x01\x02\x01\x30\x02\x02\x12" "\x2B\x06\x01\x02\x01\x30\x02\x02\x13"
-    "\x2B\x06\x01\x02\x01\x30\x02\x02\x14" "\x2B\x06\x01\x02\x01\x30\x02\x02\x15" "\x2B\x06\x01\x02\x01\x30\x02\x02\x16"
-    "\x2B\x06\x01\x02\x01\x30\x02\x02\x17" "\x2B\x06\x01\x02\x01\x30\x02\x02\x18" "\x2B\x06\x01\x02\x01\x31",
-    "\x2B\x06\x01\x02\x01\x31\x02" "\x2B\x06\x01\x02\x01\x31\x02\x01" "\x2B\x06\x01\x02\x01\x31\x02\x01\x01"
-    "\x2B\x06\x01\x02\x01\x31\x02\x01\x02" "\x2B\x06\x01\x02\x01\x31\x02\x02" "\x2B\x06\x01\x02\x01\x31\x02\x02\x01"
-    "\x2B\x06\x01\x02\x01\x31\x02\x02\x02" "\x2B\x06\x01\x02\x01\x31\x02\x02\x03" "\x2B\x06\x01\x02\x01\x31\x02\x02\x04"
-    "\x2B\x06\x01\x02\x01\x31\x02\x02\x05" "\x2B\x06\x01\x02\x01\x32" "\x2B\x06\x01\x02\x01\x32\x02"
-    "\x2B\x06\x01\x02\x01\x32\x02\x01" "\x2B\x06\x01\x02\x01\x32\x02\x01\x01" "\x2B\x06\x01\x02\x01\x32\x02\x01\x02"
-    "\x2B\x06\x01\x02\x01\x32\x02\x02" "\x2B\x06\x01\x02\x01\x32\x02\x02\x01" "\x2B\x06\x01\x02\x01\x32\x02\x02\x02"
-    "\x2B\x06\x01\x02\x01\x32\x02\x02\x03" "\x2B\x06\x01\x02\x01\x32\x02\x02\x04" "\x2B\x06\x01\x02\x01\x4D"
-    "\x2B\x06\x01\x02\x01\x4D\x01" "\x2B\x06\x01\x02\x01\x4D\x01\x01" "\x2B\x06\x01\x02\x01\x4D\x01\x01\x01"
-    "\x2B\x06\x01\x02\x01\x4D\x01\x01\x01\x01" "\x2B\x06\x01\x02\x01\x63" "\x2B\x06\x01\x02\x01\x63\x01"
-    "\x2B\x06\x01\x02\x01\x63\x01\x01" "\x2B\x06\x01\x02\x01\x63\x01\x01\x01" "\x2B\x06\x01\x02\x01\x63\x01\x01\x01\x01"
-    "\x2B\x06\x01\x02\x01\x63\x01\x01\x01\x02" "\x2B\x06\x01\x02\x01\x63\x01\x01\x01\x03"
-    "\x2B\x06\x01\x02\x01\x63\x01\x01\x01\x04" "\x2B\x06\x01\x02\x01\x63\x01\x01\x01\x05"
-    "\x2B\x06\x01\x02\x01\x63\x01\x01\x01\x06" "\x2B\x06\x01\x02\x01\x63\x01\x01\x01\x07"
-    "\x2B\x06\x01\x02\x01\x63\x01\x01\x01\x08" "\x2B\x06\x01\x03" "\x2B\x06\x01\x04" "\x2B\x06\x01\x04\x01"
-    "\x2B\x06\x01\x04\x01\x2A\x02\x1B\x01\x02\x05" "\x2B\x06\x01\x04\x01\x2A\x02\x1B\x02\x01\x0F"
-    "\x2B\x06\x01\x04\x01\x2A\x02\x1B\x04\x01\x06" "\x2B\x06\x01\x04\x01\x2A\x02\x1B\x04\x01\x07"
-    "\x2B\x06\x01\x04\x01\x2A\x02\x1B\x04\x01\x08" "\x2B\x06\x01\x04\x01\x2A\x02\x1B\x04\x01\x0A"
-    "\x2B\x06\x01\x04\x01\x2A\x02\x1B\x04\x01\x0B" "\x2B\x06\x01\x04\x01\x2A\x02\x1B\x04\x01\x0C"
-    "\x2B\x06\x01\x04\x01\x2A\x02\x1B\x04\x01\x0D" "\x2B\x06\x01\x04\x01\x2A\x02\x1B\x04\x01\x0E"
-    "\x2B\x06\x01\x04\x01\x2A\x02\x1B\x04\x01\x0F" "\x2B\x06\x01\x04\x01\x2A\x02\x1B\x04\x02\x01"
-    "\x2B\x06\x01\x04\x01\x2A\x02\x1B\x04\x02\x04" "\x2B\x06\x01\x04\x01\x2A\x02\x1B\x04\x02\x05"
-    "\x2B\x06\x01\x04\x01\x2A\x02\x1B\x04\x02\x07" "\x2B\x06\x01\x04\x01\x2A\x02\x1B\x04\x02\x08",
-    "\x2B\x06\x01\x04\x01\x2A\x02\x1B\x04\x02\x09" "\x2B\x06\x01\x04\x01\x2A\x02\x1B\x04\x02\x0A"
-    "\x2B\x06\x01\x04\x01\x2A\x02\x1B\x04\x02\x0B" "\x2B\x06\x01\x04\x01\x2A\x02\x1B\x08\x01\x01"
-    "\x2B\x06\x01\x04\x01\x2A\x02\x1B\x08\x01\x02" "\x2B\x06\x01\x04\x01\x2A\x02\x1B\x08\x01\x03"
-    "\x2B\x06\x01\x04\x01\x2A\x02\x1B\x08\x01\x04" "\x2B\x06\x01\x04\x01\x2A\x02\x1B\x08\x01\x05"
-    "\x2B\x06\x01\x04\x01\x2A\x02\x1B\x08\x01\x06" "\x2B\x06\x01\x04\x01\x2A\x02\x1B\x08\x01\x07"
-    "\x2B\x06\x01\x04\x01\x2A\x02\x1B\x08\x01\x08" "\x2B\x06\x01\x04\x01\x2A\x02\x1B\x08\x01\x09"
-    "\x2B\x06\x01\x04\x01\x2A\x02\x1B\x08\x01\x0A" "\x2B\x06\x01\x04\x01\x2A\x02\x1B\x08\x01\x0B"
-    "\x2B\x06\x01\x04\x01\x2A\x02\x1B\x08\x01\x0C" "\x2B\x06\x01\x04\x01\x2A\x02\x1B\x08\x01\x0D"
-    "\x2B\x06\x01\x04\x01\x2A\x02\x1B\x08\x01\x0E" "\x2B\x06\x01\x04\x01\x2A\x02\x1B\x08\x01\x0F"
-    "\x2B\x06\x01\x04\x01\x2A\x02\x1B\x08\x01\x10" "\x2B\x06\x01\x04\x01\x2A\x02\x1B\x08\x01\x11"
-    "\x2B\x06\x01\x04\x01\x2A\x02\x1B\x08\x01\x13" "\x2B\x06\x01\x04\x01\x2A\x02\x1B\x08\x01\x14"
-    "\x2B\x06\x01\x04\x01\x2A\x02\x1B\x08\x01\x15" "\x2B\x06\x01\x04\x01\x2A\x02\x1B\x08\x01\x16"
-    "\x2B\x06\x01\x04\x01\x2A\x02\x1B\x08\x01\x17" "\x2B\x06\x01\x04\x01\x2A\x02\x1B\x08\x01\x18"
-    "\x2B\x06\x01\x04\x01\x2A\x02\x1B\x08\x01\x19" "\x2B\x06\x01\x04\x01\x2A\x02\x1B\x08\x01\x1A"
-    "\x2B\x06\x01\x04\x01\x2A\x02\x1B\x08\x01\x1B" "\x2B\x06\x01\x04\x01\x2A\x02\x1B\x08\x01\x1C"
-    "\x2B\x06\x01\x04\x01\x2A\x02\x1B\x08\x01\x1D" "\x2B\x06\x01\x04\x01\x2A\x02\x1B\x08\x01\x1E"
-    "\x2B\x06\x01\x04\x01\x2A\x02\x1B\x08\x01\x1F" "\x2B\x06\x01\x04\x01\x2A\x02\x1B\x08\x01\x20"
-    "\x2B\x06\x01\x04\x01\x2A\x02\x1B\x08\x01\x21" "\x2B\x06\x01\x04\x01\x2A\x02\x1B\x08\x02\x01"
-    "\x2B\x06\x01\x04\x01\x2A\x02\x1B\x08\x05\x01" "\x2B\x06\x01\x04\x01\x2A\x02\x1B\x09\x01\x84\x54"
-    "\x2B\x06\x01\x04\x01\x2A\x02\x1B\x09\x05\x08" "\x2B\x06\x01\x04\x01\x81\x3C\x07\x01\x01\x02"
-    "\x2B\x06\x01\x04\x01\x81\x3C\x07\x01\x01\x06" "\x2B\x06\x01\x04\x01\x82\x37"
-    "\x2B\x06\x01\x04\x01\x82\x37\x02\x01\x04" "\x2B\x06\x01\x04\x01\x82\x37\x02\x01\x0B"
-    "\x2B\x06\x01\x04\x01\x82\x37\x02\x01\x0C" "\x2B\x06\x01\x04\x01\x82\x37\x02\x01\x0E"
-    "\x2B\x06\x01\x04\x01\x82\x37\x02\x01\x0F", "\x2B\x06\x01\x04\x01\x82\x37\x02\x01\x15"
-    "\x2B\x06\x01\x04\x01\x82\x37\x02\x01\x16" "\x2B\x06\x01\x04\x01\x82\x37\x02\x02\x0A"
-    "\x2B\x06\x01\x04\x01\x82\x37\x02\x02\x1E" "\x2B\x06\x01\x04\x01\x82\x37\x02\x04\x01"
-    "\x2B\x06\x01\x04\x01\x82\x37\x03\x03\x01" "\x2B\x06\x01\x04\x01\x82\x37\x0A\x01"
-    "\x2B\x06\x01\x04\x01\x82\x37\x0A\x02" "\x2B\x06\x01\x04\x01\x82\x37\x0A\x03\x01"
-    "\x2B\x06\x01\x04\x01\x82\x37\x0A\x03\x02" "\x2B\x06\x01\x04\x01\x82\x37\x0A\x03\x03"
-    "\x2B\x06\x01\x04\x01\x82\x37\x0A\x03\x03\x01" "\x2B\x06\x01\x04\x01\x82\x37\x0A\x03\x04"
-    "\x2B\x06\x01\x04\x01\x82\x37\x0A\x03\x04\x01" "\x2B\x06\x01\x04\x01\x82\x37\x0A\x03\x05"
-    "\x2B\x06\x01\x04\x01\x82\x37\x0A\x03\x06" "\x2B\x06\x01\x04\x01\x82\x37\x0A\x03\x07"
-    "\x2B\x06\x01\x04\x01\x82\x37\x0A\x03\x08" "\x2B\x06\x01\x04\x01\x82\x37\x0A\x03\x09"
-    "\x2B\x06\x01\x04\x01\x82\x37\x0A\x03\x0A" "\x2B\x06\x01\x04\x01\x82\x37\x0A\x03\x0B"
-    "\x2B\x06\x01\x04\x01\x82\x37\x0A\x03\x0C" "\x2B\x06\x01\x04\x01\x82\x37\x0A\x03\x0D"
-    "\x2B\x06\x01\x04\x01\x82\x37\x0A\x03\x0E" "\x2B\x06\x01\x04\x01\x82\x37\x0A\x03\x13"
-    "\x2B\x06\x01\x04\x01\x82\x37\x0A\x03\x1E" "\x2B\x06\x01\x04\x01\x82\x37\x0A\x05\x01"
-    "\x2B\x06\x01\x04\x01\x82\x37\x0A\x06\x01" "\x2B\x06\x01\x04\x01\x82\x37\x0A\x06\x02"
-    "\x2B\x06\x01\x04\x01\x82\x37\x0A\x09\x01" "\x2B\x06\x01\x04\x01\x82\x37\x0A\x0C\x01"
-    "\x2B\x06\x01\x04\x01\x82\x37\x0D\x01" "\x2B\x06\x01\x04\x01\x82\x37\x0D\x02\x01"
-    "\x2B\x06\x01\x04\x01\x82\x37\x0D\x02\x02" "\x2B\x06\x01\x04\x01\x82\x37\x0D\x02\x03"
-    "\x2B\x06\x01\x04\x01\x82\x37\x11\x01" "\x2B\x06\x01\x04\x01\x82\x37\x11\x02" "\x2B\x06\x01\x04\x01\x82\x37\x11\x03"
-    "\x2B\x06\x01\x04\x01\x82\x37\x14\x01" "\x2B\x06\x01\x04\x01\x82\x37\x14\x02"
-    "\x2B\x06\x01\x04\x01\x82\x37\x14\x02\x01" "\x2B\x06\x01\x04\x01\x82\x37\x14\x02\x02"
-    "\x2B\x06\x01\x04\x01\x82\x37\x14\x02\x03" "\x2B\x06\x01\x04\x01\x82\x37\x14\x03"
-    "\x2B\x06\x01\x04\x01\x82\x37\x15\x01" "\x2B\x06\x01\x04\x01\x82\x37\x15\x02" "\x2B\x06\x01\x04\x01\x82\x37\x15\x03"
+    "\x2B\x06\x01\x02\x01\x30\x02\x02\x14", "\x2B\x06\x01\x02\x01\x30\x02\x02\x15"
+    "\x2B\x06\x01\x02\x01\x30\x02\x02\x16" "\x2B\x06\x01\x02\x01\x30\x02\x02\x17" "\x2B\x06\x01\x02\x01\x30\x02\x02\x18"
+    "\x2B\x06\x01\x02\x01\x31" "\x2B\x06\x01\x02\x01\x31\x02" "\x2B\x06\x01\x02\x01\x31\x02\x01"
+    "\x2B\x06\x01\x02\x01\x31\x02\x01\x01" "\x2B\x06\x01\x02\x01\x31\x02\x01\x02" "\x2B\x06\x01\x02\x01\x31\x02\x02"
+    "\x2B\x06\x01\x02\x01\x31\x02\x02\x01" "\x2B\x06\x01\x02\x01\x31\x02\x02\x02" "\x2B\x06\x01\x02\x01\x31\x02\x02\x03"
+    "\x2B\x06\x01\x02\x01\x31\x02\x02\x04" "\x2B\x06\x01\x02\x01\x31\x02\x02\x05" "\x2B\x06\x01\x02\x01\x32"
+    "\x2B\x06\x01\x02\x01\x32\x02" "\x2B\x06\x01\x02\x01\x32\x02\x01" "\x2B\x06\x01\x02\x01\x32\x02\x01\x01"
+    "\x2B\x06\x01\x02\x01\x32\x02\x01\x02" "\x2B\x06\x01\x02\x01\x32\x02\x02" "\x2B\x06\x01\x02\x01\x32\x02\x02\x01"
+    "\x2B\x06\x01\x02\x01\x32\x02\x02\x02" "\x2B\x06\x01\x02\x01\x32\x02\x02\x03" "\x2B\x06\x01\x02\x01\x32\x02\x02\x04"
+    "\x2B\x06\x01\x02\x01\x4D" "\x2B\x06\x01\x02\x01\x4D\x01" "\x2B\x06\x01\x02\x01\x4D\x01\x01"
+    "\x2B\x06\x01\x02\x01\x4D\x01\x01\x01" "\x2B\x06\x01\x02\x01\x4D\x01\x01\x01\x01" "\x2B\x06\x01\x02\x01\x63"
+    "\x2B\x06\x01\x02\x01\x63\x01" "\x2B\x06\x01\x02\x01\x63\x01\x01" "\x2B\x06\x01\x02\x01\x63\x01\x01\x01"
+    "\x2B\x06\x01\x02\x01\x63\x01\x01\x01\x01" "\x2B\x06\x01\x02\x01\x63\x01\x01\x01\x02"
+    "\x2B\x06\x01\x02\x01\x63\x01\x01\x01\x03" "\x2B\x06\x01\x02\x01\x63\x01\x01\x01\x04"
+    "\x2B\x06\x01\x02\x01\x63\x01\x01\x01\x05" "\x2B\x06\x01\x02\x01\x63\x01\x01\x01\x06"
+    "\x2B\x06\x01\x02\x01\x63\x01\x01\x01\x07" "\x2B\x06\x01\x02\x01\x63\x01\x01\x01\x08" "\x2B\x06\x01\x03"
+    "\x2B\x06\x01\x04" "\x2B\x06\x01\x04\x01" "\x2B\x06\x01\x04\x01\x2A\x02\x1B\x01\x02\x05"
+    "\x2B\x06\x01\x04\x01\x2A\x02\x1B\x02\x01\x0F" "\x2B\x06\x01\x04\x01\x2A\x02\x1B\x04\x01\x06"
+    "\x2B\x06\x01\x04\x01\x2A\x02\x1B\x04\x01\x07" "\x2B\x06\x01\x04\x01\x2A\x02\x1B\x04\x01\x08"
+    "\x2B\x06\x01\x04\x01\x2A\x02\x1B\x04\x01\x0A" "\x2B\x06\x01\x04\x01\x2A\x02\x1B\x04\x01\x0B"
+    "\x2B\x06\x01\x04\x01\x2A\x02\x1B\x04\x01\x0C" "\x2B\x06\x01\x04\x01\x2A\x02\x1B\x04\x01\x0D"
+    "\x2B\x06\x01\x04\x01\x2A\x02\x1B\x04\x01\x0E" "\x2B\x06\x01\x04\x01\x2A\x02\x1B\x04\x01\x0F"
+    "\x2B\x06\x01\x04\x01\x2A\x02\x1B\x04\x02\x01", "\x2B\x06\x01\x04\x01\x2A\x02\x1B\x04\x02\x04"
+    "\x2B\x06\x01\x04\x01\x2A\x02\x1B\x04\x02\x05" "\x2B\x06\x01\x04\x01\x2A\x02\x1B\x04\x02\x07"
+    "\x2B\x06\x01\x04\x01\x2A\x02\x1B\x04\x02\x08" "\x2B\x06\x01\x04\x01\x2A\x02\x1B\x04\x02\x09"
+    "\x2B\x06\x01\x04\x01\x2A\x02\x1B\x04\x02\x0A" "\x2B\x06\x01\x04\x01\x2A\x02\x1B\x04\x02\x0B"
+    "\x2B\x06\x01\x04\x01\x2A\x02\x1B\x08\x01\x01" "\x2B\x06\x01\x04\x01\x2A\x02\x1B\x08\x01\x02"
+    "\x2B\x06\x01\x04\x01\x2A\x02\x1B\x08\x01\x03" "\x2B\x06\x01\x04\x01\x2A\x02\x1B\x08\x01\x04"
+    "\x2B\x06\x01\x04\x01\x2A\x02\x1B\x08\x01\x05" "\x2B\x06\x01\x04\x01\x2A\x02\x1B\x08\x01\x06"
+    "\x2B\x06\x01\x04\x01\x2A\x02\x1B\x08\x01\x07" "\x2B\x06\x01\x04\x01\x2A\x02\x1B\x08\x01\x08"
+    "\x2B\x06\x01\x04\x01\x2A\x02\x1B\x08\x01\x09" "\x2B\x06\x01\x04\x01\x2A\x02\x1B\x08\x01\x0A"
+    "\x2B\x06\x01\x04\x01\x2A\x02\x1B\x08\x01\x0B" "\x2B\x06\x01\x04\x01\x2A\x02\x1B\x08\x01\x0C"
+    "\x2B\x06\x01\x04\x01\x2A\x02\x1B\x08\x01\x0D" "\x2B\x06\x01\x04\x01\x2A\x02\x1B\x08\x01\x0E"
+    "\x2B\x06\x01\x04\x01\x2A\x02\x1B\x08\x01\x0F" "\x2B\x06\x01\x04\x01\x2A\x02\x1B\x08\x01\x10"
+    "\x2B\x06\x01\x04\x01\x2A\x02\x1B\x08\x01\x11" "\x2B\x06\x01\x04\x01\x2A\x02\x1B\x08\x01\x13"
+    "\x2B\x06\x01\x04\x01\x2A\x02\x1B\x08\x01\x14" "\x2B\x06\x01\x04\x01\x2A\x02\x1B\x08\x01\x15"
+    "\x2B\x06\x01\x04\x01\x2A\x02\x1B\x08\x01\x16" "\x2B\x06\x01\x04\x01\x2A\x02\x1B\x08\x01\x17"
+    "\x2B\x06\x01\x04\x01\x2A\x02\x1B\x08\x01\x18" "\x2B\x06\x01\x04\x01\x2A\x02\x1B\x08\x01\x19"
+    "\x2B\x06\x01\x04\x01\x2A\x02\x1B\x08\x01\x1A" "\x2B\x06\x01\x04\x01\x2A\x02\x1B\x08\x01\x1B"
+    "\x2B\x06\x01\x04\x01\x2A\x02\x1B\x08\x01\x1C" "\x2B\x06\x01\x04\x01\x2A\x02\x1B\x08\x01\x1D"
+    "\x2B\x06\x01\x04\x01\x2A\x02\x1B\x08\x01\x1E" "\x2B\x06\x01\x04\x01\x2A\x02\x1B\x08\x01\x1F"
+    "\x2B\x06\x01\x04\x01\x2A\x02\x1B\x08\x01\x20" "\x2B\x06\x01\x04\x01\x2A\x02\x1B\x08\x01\x21"
+    "\x2B\x06\x01\x04\x01\x2A\x02\x1B\x08\x02\x01" "\x2B\x06\x01\x04\x01\x2A\x02\x1B\x08\x05\x01"
+    "\x2B\x06\x01\x04\x01\x2A\x02\x1B\x09\x01\x84\x54" "\x2B\x06\x01\x04\x01\x2A\x02\x1B\x09\x05\x08"
+    "\x2B\x06\x01\x04\x01\x81\x3C\x07\x01\x01\x02" "\x2B\x06\x01\x04\x01\x81\x3C\x07\x01\x01\x06"
+    "\x2B\x06\x01\x04\x01\x82\x37", "\x2B\x06\x01\x04\x01\x82\x37\x02\x01\x04"
+    "\x2B\x06\x01\x04\x01\x82\x37\x02\x01\x0B" "\x2B\x06\x01\x04\x01\x82\x37\x02\x01\x0C"
+    "\x2B\x06\x01\x04\x01\x82\x37\x02\x01\x0E" "\x2B\x06\x01\x04\x01\x82\x37\x02\x01\x0F"
+    "\x2B\x06\x01\x04\x01\x82\x37\x02\x01\x15" "\x2B\x06\x01\x04\x01\x82\x37\x02\x01\x16"
+    "\x2B\x06\x01\x04\x01\x82\x37\x02\x02\x0A" "\x2B\x06\x01\x04\x01\x82\x37\x02\x02\x1E"
+    "\x2B\x06\x01\x04\x01\x82\x37\x02\x04\x01" "\x2B\x06\x01\x04\x01\x82\x37\x03\x03\x01"
+    "\x2B\x06\x01\x04\x01\x82\x37\x0A\x01" "\x2B\x06\x01\x04\x01\x82\x37\x0A\x02"
+    "\x2B\x06\x01\x04\x01\x82\x37\x0A\x03\x01" "\x2B\x06\x01\x04\x01\x82\x37\x0A\x03\x02"
+    "\x2B\x06\x01\x04\x01\x82\x37\x0A\x03\x03" "\x2B\x06\x01\x04\x01\x82\x37\x0A\x03\x03\x01"
+    "\x2B\x06\x01\x04\x01\x82\x37\x0A\x03\x04" "\x2B\x06\x01\x04\x01\x82\x37\x0A\x03\x04\x01"
+    "\x2B\x06\x01\x04\x01\x82\x37\x0A\x03\x05" "\x2B\x06\x01\x04\x01\x82\x37\x0A\x03\x06"
+    "\x2B\x06\x01\x04\x01\x82\x37\x0A\x03\x07" "\x2B\x06\x01\x04\x01\x82\x37\x0A\x03\x08"
+    "\x2B\x06\x01\x04\x01\x82\x37\x0A\x03\x09" "\x2B\x06\x01\x04\x01\x82\x37\x0A\x03\x0A"
+    "\x2B\x06\x01\x04\x01\x82\x37\x0A\x03\x0B" "\x2B\x06\x01\x04\x01\x82\x37\x0A\x03\x0C"
+    "\x2B\x06\x01\x04\x01\x82\x37\x0A\x03\x0D" "\x2B\x06\x01\x04\x01\x82\x37\x0A\x03\x0E"
+    "\x2B\x06\x01\x04\x01\x82\x37\x0A\x03\x13" "\x2B\x06\x01\x04\x01\x82\x37\x0A\x03\x1E"
+    "\x2B\x06\x01\x04\x01\x82\x37\x0A\x05\x01" "\x2B\x06\x01\x04\x01\x82\x37\x0A\x06\x01"
+    "\x2B\x06\x01\x04\x01\x82\x37\x0A\x06\x02" "\x2B\x06\x01\x04\x01\x82\x37\x0A\x09\x01"
+    "\x2B\x06\x01\x04\x01\x82\x37\x0A\x0C\x01" "\x2B\x06\x01\x04\x01\x82\x37\x0D\x01"
+    "\x2B\x06\x01\x04\x01\x82\x37\x0D\x02\x01" "\x2B\x06\x01\x04\x01\x82\x37\x0D\x02\x02"
+    "\x2B\x06\x01\x04\x01\x82\x37\x0D\x02\x03" "\x2B\x06\x01\x04\x01\x82\x37\x11\x01"
+    "\x2B\x06\x01\x04\x01\x82\x37\x11\x02" "\x2B\x06\x01\x04\x01\x82\x37\x11\x03" "\x2B\x06\x01\x04\x01\x82\x37\x14\x01"
+    "\x2B\x06\x01\x04\x01\x82\x37\x14\x02" "\x2B\x06\x01\x04\x01\x82\x37\x14\x02\x01"
+    "\x2B\x06\x01\x04\x01\x82\x37\x14\x02\x02" "\x2B\x06\x01\x04\x01\x82\x37\x14\x02\x03"
+    "\x2B\x06\x01\x04\x01\x82\x37\x14\x03" "\x2B\x06\x01\x04\x01\x82\x37\x15\x01"
+    "\x2B\x06\x01\x04\x01\x82\x37\x15\x02", "\x2B\x06\x01\x04\x01\x82\x37\x15\x03"
     "\x2B\x06\x01\x04\x01\x82\x37\x15\x04" "\x2B\x06\x01\x04\x01\x82\x37\x15\x05" "\x2B\x06\x01\x04\x01\x82\x37\x15\x06"
-    "\x2B\x06\x01\x04\x01\x82\x37\x15\x07" "\x2B\x06\x01\x04\x01\x82\x37\x15\x08",
-    "\x2B\x06\x01\x04\x01\x82\x37\x15\x09" "\x2B\x06\x01\x04\x01\x82\x37\x15\x0A" "\x2B\x06\x01\x04\x01\x82\x37\x15\x0B"
-    "\x2B\x06\x01\x04\x01\x82\x37\x15\x0C" "\x2B\x06\x01\x04\x01\x82\x37\x15\x0D" "\x2B\x06\x01\x04\x01\x82\x37\x15\x0E"
-    "\x2B\x06\x01\x04\x01\x82\x37\x15\x0F" "\x2B\x06\x01\x04\x01\x82\x37\x15\x10" "\x2B\x06\x01\x04\x01\x82\x37\x15\x11"
-    "\x2B\x06\x01\x04\x01\x82\x37\x15\x13" "\x2B\x06\x01\x04\x01\x82\x37\x15\x14" "\x2B\x06\x01\x04\x01\x82\x37\x15\x15"
-    "\x2B\x06\x01\x04\x01\x82\x37\x15\x16" "\x2B\x06\x01\x04\x01\x82\x37\x15\x1B" "\x2B\x06\x01\x04\x01\x82\x37\x19\x01"
-    "\x2B\x06\x01\x04\x01\x82\x37\x19\x02" "\x2B\x06\x01\x04\x01\x82\x37\x19\x02\x01"
-    "\x2B\x06\x01\x04\x01\x82\x37\x36\x01\x02" "\x2B\x06\x01\x04\x01\x82\x37\x3C\x02\x01\x01"
-    "\x2B\x06\x01\x04\x01\x82\x37\x3C\x02\x01\x02" "\x2B\x06\x01\x04\x01\x82\x37\x3C\x02\x01\x03"
-    "\x2B\x06\x01\x04\x01\x82\x37\x3D\x01\x01" "\x2B\x06\x01\x04\x01\x82\x37\x43\x01\x01"
-    "\x2B\x06\x01\x04\x01\x82\x37\x43\x01\x02" "\x2B\x06\x01\x04\x01\x82\x37\x4C\x08\x01"
-    "\x2B\x06\x01\x04\x01\x83\x45\x10\x02\x81\x3C" "\x2B\x06\x01\x04\x01\x84\x59\x0A\x04\x01"
-    "\x2B\x06\x01\x04\x01\x84\x59\x0A\x04\x02" "\x2B\x06\x01\x04\x01\x8B\x3A\x81\x9C\x45"
-    "\x2B\x06\x01\x04\x01\x8D\x3A\x0C\x02\x01" "\x2B\x06\x01\x04\x01\x8D\x3A\x0C\x02\x01\x10"
-    "\x2B\x06\x01\x04\x01\x8D\x3A\x0C\x02\x02" "\x2B\x06\x01\x04\x01\x8D\x3A\x0C\x02\x02\x08"
-    "\x2B\x06\x01\x04\x01\x8F\x65" "\x2B\x06\x01\x04\x01\x8F\x65\x02" "\x2B\x06\x01\x04\x01\x8F\x65\x02\x01"
-    "\x2B\x06\x01\x04\x01\x8F\x65\x02\x01\x01" "\x2B\x06\x01\x04\x01\x8F\x65\x02\x01\x02"
-    "\x2B\x06\x01\x04\x01\x8F\x65\x02\x01\x03" "\x2B\x06\x01\x04\x01\x8F\x65\x02\x01\x04"
-    "\x2B\x06\x01\x04\x01\x8F\x65\x02\x01\x05" "\x2B\x06\x01\x04\x01\x8F\x65\x02\x01\x64"
-    "\x2B\x06\x01\x04\x01\x8F\x65\x02\x01\x65" "\x2B\x06\x01\x04\x01\x8F\x65\x02\x01\x66"
-    "\x2B\x06\x01\x04\x01\x8F\x65\x02\x01\x67" "\x2B\x06\x01\x04\x01\x8F\x65\x04" "\x2B\x06\x01\x04\x01\x8F\x65\x04\x01"
-    "\x2B\x06\x01\x04\x01\x8F\x65\x04\x02" "\x2B\x06\x01\x04\x01\x8F\x65\x04\x03" "\x2B\x06\x01\x04\x01\x8F\x65\x04\x04"
-    "\x2B\x06\x01\x04\x01\x8F\x65\x04\x05" "\x2B\x06\x01\x04\x01\x8F\x65\x04\x06"
-    "\x2B\x06\x01\x04\x01\x8F\x65\x04\x07", "\x2B\x06\x01\x04\x01\x8F\x65\x04\x08"
+    "\x2B\x06\x01\x04\x01\x82\x37\x15\x07" "\x2B\x06\x01\x04\x01\x82\x37\x15\x08" "\x2B\x06\x01\x04\x01\x82\x37\x15\x09"
+    "\x2B\x06\x01\x04\x01\x82\x37\x15\x0A" "\x2B\x06\x01\x04\x01\x82\x37\x15\x0B" "\x2B\x06\x01\x04\x01\x82\x37\x15\x0C"
+    "\x2B\x06\x01\x04\x01\x82\x37\x15\x0D" "\x2B\x06\x01\x04\x01\x82\x37\x15\x0E" "\x2B\x06\x01\x04\x01\x82\x37\x15\x0F"
+    "\x2B\x06\x01\x04\x01\x82\x37\x15\x10" "\x2B\x06\x01\x04\x01\x82\x37\x15\x11" "\x2B\x06\x01\x04\x01\x82\x37\x15\x13"
+    "\x2B\x06\x01\x04\x01\x82\x37\x15\x14" "\x2B\x06\x01\x04\x01\x82\x37\x15\x15" "\x2B\x06\x01\x04\x01\x82\x37\x15\x16"
+    "\x2B\x06\x01\x04\x01\x82\x37\x15\x1B" "\x2B\x06\x01\x04\x01\x82\x37\x19\x01" "\x2B\x06\x01\x04\x01\x82\x37\x19\x02"
+    "\x2B\x06\x01\x04\x01\x82\x37\x19\x02\x01" "\x2B\x06\x01\x04\x01\x82\x37\x36\x01\x02"
+    "\x2B\x06\x01\x04\x01\x82\x37\x3C\x02\x01\x01" "\x2B\x06\x01\x04\x01\x82\x37\x3C\x02\x01\x02"
+    "\x2B\x06\x01\x04\x01\x82\x37\x3C\x02\x01\x03" "\x2B\x06\x01\x04\x01\x82\x37\x3D\x01\x01"
+    "\x2B\x06\x01\x04\x01\x82\x37\x43\x01\x01" "\x2B\x06\x01\x04\x01\x82\x37\x43\x01\x02"
+    "\x2B\x06\x01\x04\x01\x82\x37\x4C\x08\x01" "\x2B\x06\x01\x04\x01\x83\x45\x10\x02\x81\x3C"
+    "\x2B\x06\x01\x04\x01\x84\x59\x0A\x04\x01" "\x2B\x06\x01\x04\x01\x84\x59\x0A\x04\x02"
+    "\x2B\x06\x01\x04\x01\x8B\x3A\x81\x9C\x45" "\x2B\x06\x01\x04\x01\x8D\x3A\x0C\x02\x01"
+    "\x2B\x06\x01\x04\x01\x8D\x3A\x0C\x02\x01\x10" "\x2B\x06\x01\x04\x01\x8D\x3A\x0C\x02\x02"
+    "\x2B\x06\x01\x04\x01\x8D\x3A\x0C\x02\x02\x08" "\x2B\x06\x01\x04\x01\x8F\x65" "\x2B\x06\x01\x04\x01\x8F\x65\x02"
+    "\x2B\x06\x01\x04\x01\x8F\x65\x02\x01" "\x2B\x06\x01\x04\x01\x8F\x65\x02\x01\x01"
+    "\x2B\x06\x01\x04\x01\x8F\x65\x02\x01\x02" "\x2B\x06\x01\x04\x01\x8F\x65\x02\x01\x03"
+    "\x2B\x06\x01\x04\x01\x8F\x65\x02\x01\x04" "\x2B\x06\x01\x04\x01\x8F\x65\x02\x01\x05"
+    "\x2B\x06\x01\x04\x01\x8F\x65\x02\x01\x64" "\x2B\x06\x01\x04\x01\x8F\x65\x02\x01\x65"
+    "\x2B\x06\x01\x04\x01\x8F\x65\x02\x01\x66" "\x2B\x06\x01\x04\x01\x8F\x65\x02\x01\x67"
+    "\x2B\x06\x01\x04\x01\x8F\x65\x04" "\x2B\x06\x01\x04\x01\x8F\x65\x04\x01", "\x2B\x06\x01\x04\x01\x8F\x65\x04\x02"
+    "\x2B\x06\x01\x04\x01\x8F\x65\x04\x03" "\x2B\x06\x01\x04\x01\x8F\x65\x04\x04" "\x2B\x06\x01\x04\x01\x8F\x65\x04\x05"
+    "\x2B\x06\x01\x04\x01\x8F\x65\x04\x06" "\x2B\x06\x01\x04\x01\x8F\x65\x04\x07" "\x2B\x06\x01\x04\x01\x8F\x65\x04\x08"
     "\x2B\x06\x01\x04\x01\x8F\x65\x04\x09" "\x2B\x06\x01\x04\x01\x8F\x65\x04\x0A" "\x2B\x06\x01\x04\x01\x8F\x65\x04\x0B"
     "\x2B\x06\x01\x04\x01\x8F\x65\x04\x0C" "\x2B\x06\x01\x04\x01\x8F\x65\x04\x0D" "\x2B\x06\x01\x04\x01\x8F\x65\x04\x0E"
     "\x2B\x06\x01\x04\x01\x8F\x65\x04\x0F" "\x2B\x06\x01\x04\x01\x8F\x65\x04\x10" "\x2B\x06\x01\x04\x01\x8F\x65\x04\x11"
@@ -1147,10 +1143,10 @@ CONST_OID_TABLE const uint8_t const_oid_common_bytes[][512] = {
     "\x2B\x06\x01\x04\x01\x8F\x65\x09\x01\x08" "\x2B\x06\x01\x04\x01\x8F\x65\x09\x01\x09"
     "\x2B\x06\x01\x04\x01\x8F\x65\x09\x01\x0A" "\x2B\x06\x01\x04\x01\x8F\x65\x09\x01\x0B"
     "\x2B\x06\x01\x04\x01\x8F\x65\x09\x01\x0C" "\x2B\x06\x01\x04\x01\x8F\x65\x09\x01\x0D"
-    "\x2B\x06\x01\x04\x01\x8F\x65\x09\x01\x0E" "\x2B\x06\x01\x04\x01\x8F\x65\x09\x01\x0F"
+    "\x2B\x06\x01\x04\x01\x8F\x65\x09\x01\x0E" "\x2B\x06\x01\x04\x01\x8F\x65\x09\x01\x0F",
     "\x2B\x06\x01\x04\x01\x8F\x65\x09\x01\x10" "\x2B\x06\x01\x04\x01\x8F\x65\x09\x01\x64"
     "\x2B\x06\x01\x04\x01\x8F\x65\x09\x01\x65" "\x2B\x06\x01\x04\x01\x8F\x65\x0A" "\x2B\x06\x01\x04\x01\x8F\x65\x0A\x01"
-    "\x2B\x06\x01\x04\x01\x8F\x65\x0A\x01\x01", "\x2B\x06\x01\x04\x01\x8F\x65\x0A\x01\x02"
+    "\x2B\x06\x01\x04\x01\x8F\x65\x0A\x01\x01" "\x2B\x06\x01\x04\x01\x8F\x65\x0A\x01\x02"
     "\x2B\x06\x01\x04\x01\x8F\x65\x0A\x01\x03" "\x2B\x06\x01\x04\x01\x8F\x65\x0A\x01\x04"
     "\x2B\x06\x01\x04\x01\x8F\x65\x0A\x01\x05" "\x2B\x06\x01\x04\x01\x8F\x65\x0A\x01\x06"
     "\x2B\x06\x01\x04\x01\x8F\x65\x0A\x01\x64" "\x2B\x06\x01\x04\x01\x8F\x65\x0A\x01\x65"
@@ -1168,9 +1164,9 @@ CONST_OID_TABLE const uint8_t const_oid_common_bytes[][512] = {
     "\x2B\x06\x01\x04\x01\x8F\x65\x0D\x01\x01" "\x2B\x06\x01\x04\x01\x8F\x65\x0D\x01\x01\x01"
     "\x2B\x06\x01\x04\x01\x8F\x65\x0D\x01\x01\x01\x01" "\x2B\x06\x01\x04\x01\x8F\x65\x0D\x01\x01\x01\x02"
     "\x2B\x06\x01\x04\x01\x8F\x65\x0D\x01\x01\x01\x03" "\x2B\x06\x01\x04\x01\x8F\x65\x0D\x01\x01\x01\x04"
-    "\x2B\x06\x01\x04\x01\x8F\x65\x0D\x01\x01\x01\x05" "\x2B\x06\x01\x04\x01\x8F\x65\x0D\x01\x01\x01\x06"
+    "\x2B\x06\x01\x04\x01\x8F\x65\x0D\x01\x01\x01\x05", "\x2B\x06\x01\x04\x01\x8F\x65\x0D\x01\x01\x01\x06"
     "\x2B\x06\x01\x04\x01\x8F\x65\x0D\x01\x01\x01\x07" "\x2B\x06\x01\x04\x01\x8F\x65\x0D\x01\x01\x01\x08"
-    "\x2B\x06\x01\x04\x01\x8F\x65\x0D\x01\x01\x01\x09" "\x2B\x06\x01\x04\x01\x8F\x65\x0D\x01\x01\x01\x0A",
+    "\x2B\x06\x01\x04\x01\x8F\x65\x0D\x01\x01\x01\x09" "\x2B\x06\x01\x04\x01\x8F\x65\x0D\x01\x01\x01\x0A"
     "\x2B\x06\x01\x04\x01\x8F\x65\x0D\x01\x01\x01\x0B" "\x2B\x06\x01\x04\x01\x8F\x65\x0D\x01\x01\x01\x0C"
     "\x2B\x06\x01\x04\x01\x8F\x65\x0D\x01\x01\x01\x0D" "\x2B\x06\x01\x04\x01\x8F\x65\x0D\x01\x01\x01\x0E"
     "\x2B\x06\x01\x04\x01\x8F\x65\x0D\x01\x01\x01\x0F" "\x2B\x06\x01\x04\x01\x8F\x65\x0D\x01\x01\x01\x10"
@@ -1189,10 +1185,10 @@ CONST_OID_TABLE const uint8_t const_oid_common_bytes[][512] = {
     "\x2B\x06\x01\x04\x01\x8F\x65\x0D\x0F\x01\x01\x03" "\x2B\x06\x01\x04\x01\x8F\x65\x0D\x0F\x01\x01\x04"
     "\x2B\x06\x01\x04\x01\x8F\x65\x0D\x0F\x01\x01\x05" "\x2B\x06\x01\x04\x01\x8F\x65\x0D\x0F\x01\x01\x06"
     "\x2B\x06\x01\x04\x01\x8F\x65\x0D\x0F\x01\x01\x09" "\x2B\x06\x01\x04\x01\x8F\x65\x0D\x0F\x01\x01\x0A"
-    "\x2B\x06\x01\x04\x01\x8F\x65\x0D\x0F\x01\x01\x0B" "\x2B\x06\x01\x04\x01\x8F\x65\x0D\x0F\x01\x01\x0C"
+    "\x2B\x06\x01\x04\x01\x8F\x65\x0D\x0F\x01\x01\x0B" "\x2B\x06\x01\x04\x01\x8F\x65\x0D\x0F\x01\x01\x0C",
     "\x2B\x06\x01\x04\x01\x8F\x65\x0D\x0F\x01\x01\x0D" "\x2B\x06\x01\x04\x01\x8F\x65\x0D\x0F\x01\x01\x0E"
     "\x2B\x06\x01\x04\x01\x8F\x65\x0D\x10" "\x2B\x06\x01\x04\x01\x8F\x65\x0D\x10\x01"
-    "\x2B\x06\x01\x04\x01\x8F\x65\x0D\x10\x02" "\x2B\x06\x01\x04\x01\x8F\x65\x0D\x10\x02\x01",
+    "\x2B\x06\x01\x04\x01\x8F\x65\x0D\x10\x02" "\x2B\x06\x01\x04\x01\x8F\x65\x0D\x10\x02\x01"
     "\x2B\x06\x01\x04\x01\x8F\x65\x0D\x10\x02\x01\x01" "\x2B\x06\x01\x04\x01\x8F\x65\x0D\x10\x02\x01\x02"
     "\x2B\x06\x01\x04\x01\x8F\x65\x0D\x10\x02\x01\x03" "\x2B\x06\x01\x04\x01\x8F\x65\x0D\x10\x03"
     "\x2B\x06\x01\x04\x01\x8F\x65\x0D\x10\x03\x01" "\x2B\x06\x01\x04\x01\x8F\x65\x0D\x10\x03\x01\x01"
@@ -1211,10 +1207,10 @@ CONST_OID_TABLE const uint8_t const_oid_common_bytes[][512] = {
     "\x2B\x06\x01\x04\x01\x8F\x65\x0F\x01\x65" "\x2B\x06\x01\x04\x01\x8F\x65\x10" "\x2B\x06\x01\x04\x01\x8F\x65\x10\x01"
     "\x2B\x06\x01\x04\x01\x8F\x65\x10\x02" "\x2B\x06\x01\x04\x01\x8F\x65\x10\x02\x01"
     "\x2B\x06\x01\x04\x01\x8F\x65\x10\x02\x01\x01" "\x2B\x06\x01\x04\x01\x8F\x65\x10\x02\x01\x02"
-    "\x2B\x06\x01\x04\x01\x8F\x65\x10\x02\x01\x03" "\x2B\x06\x01\x04\x01\x8F\x65\x10\x02\x01\x04"
+    "\x2B\x06\x01\x04\x01\x8F\x65\x10\x02\x01\x03" "\x2B\x06\x01\x04\x01\x8F\x65\x10\x02\x01\x04",
     "\x2B\x06\x01\x04\x01\x8F\x65\x10\x02\x01\x05" "\x2B\x06\x01\x04\x01\x8F\x65\x10\x02\x01\x06"
     "\x2B\x06\x01\x04\x01\x8F\x65\x10\x02\x01\x07" "\x2B\x06\x01\x04\x01\x8F\x65\x10\x02\x01\x08"
-    "\x2B\x06\x01\x04\x01\x8F\x65\x10\x02\x01\x09" "\x2B\x06\x01\x04\x01\x8F\x65\x10\x02\x01\x0A",
+    "\x2B\x06\x01\x04\x01\x8F\x65\x10\x02\x01\x09" "\x2B\x06\x01\x04\x01\x8F\x65\x10\x02\x01\x0A"
     "\x2B\x06\x01\x04\x01\x8F\x65\x10\x02\x01\x0B" "\x2B\x06\x01\x04\x01\x8F\x65\x10\x02\x01\x64"
     "\x2B\x06\x01\x04\x01\x8F\x65\x10\x02\x01\x65" "\x2B\x06\x01\x04\x01\x8F\x65\x64"
     "\x2B\x06\x01\x04\x01\x8F\x65\x64\x01" "\x2B\x06\x01\x04\x01\x8F\x65\x64\x02" "\x2B\x06\x01\x04\x01\x8F\x65\x64\x03"
@@ -1234,11 +1230,11 @@ CONST_OID_TABLE const uint8_t const_oid_common_bytes[][512] = {
     "\x2B\x06\x01\x04\x01\x92\x7C\x5A\x01\x09" "\x2B\x06\x01\x04\x01\x92\x7C\x5A\x01\x0B"
     "\x2B\x06\x01\x04\x01\x92\x7C\x5A\x01\x0C" "\x2B\x06\x01\x04\x01\x97\x55\x01\x02"
     "\x2B\x06\x01\x04\x01\x97\x55\x01\x05\x01" "\x2B\x06\x01\x04\x01\xA0\x6B\x01\x02\x01"
-    "\x2B\x06\x01\x04\x01\xA0\x6B\x01\x03\x01" "\x2B\x06\x01\x04\x01\xA0\x6B\x01\x03\x02"
+    "\x2B\x06\x01\x04\x01\xA0\x6B\x01\x03\x01" "\x2B\x06\x01\x04\x01\xA0\x6B\x01\x03\x02",
     "\x2B\x06\x01\x04\x01\xA0\x6B\x01\x04\x01" "\x2B\x06\x01\x04\x01\xA0\x6B\x01\x04\x03"
     "\x2B\x06\x01\x04\x01\xA0\x6B\x01\x04\x04" "\x2B\x06\x01\x04\x01\xA0\x6B\x01\x04\x05"
     "\x2B\x06\x01\x04\x01\xA0\x6B\x01\x04\x06" "\x2B\x06\x01\x04\x01\xA0\x6B\x01\x05\x01"
-    "\x2B\x06\x01\x04\x01\xA0\x6B\x01\x05\x03", "\x2B\x06\x01\x04\x01\xA0\x6B\x01\x05\x04"
+    "\x2B\x06\x01\x04\x01\xA0\x6B\x01\x05\x03" "\x2B\x06\x01\x04\x01\xA0\x6B\x01\x05\x04"
     "\x2B\x06\x01\x04\x01\xA0\x6B\x01\x05\x05" "\x2B\x06\x01\x04\x01\xA0\x6B\x01\x09\x01"
     "\x2B\x06\x01\x04\x01\xA0\x6B\x01\x0A\x01" "\x2B\x06\x01\x04\x01\xA0\x6B\x01\x0B\x01"
     "\x2B\x06\x01\x04\x01\xA0\x6B\x01\x0B\x03" "\x2B\x06\x01\x04\x01\xA0\x6B\x01\x0C\x02\x01"
@@ -1258,10 +1254,10 @@ CONST_OID_TABLE const uint8_t const_oid_common_bytes[][512] = {
     "\x2B\x06\x01\x04\x01\xA9\x4A\x15\x02\x02" "\x2B\x06\x01\x04\x01\xA9\x4A\x15\x02\x03"
     "\x2B\x06\x01\x04\x01\xA9\x4A\x15\x02\x04" "\x2B\x06\x01\x04\x01\xA9\x4A\x15\x02\x05"
     "\x2B\x06\x01\x04\x01\xAA\x33\x01\x83\x05\x06\x14" "\x2B\x06\x01\x04\x01\xAA\x33\x01\x83\x05\x06\x15"
-    "\x2B\x06\x01\x04\x01\xAE\x23\x01\x01\x01\x01" "\x2B\x06\x01\x04\x01\xAE\x23\x01\x01\x01\x02"
+    "\x2B\x06\x01\x04\x01\xAE\x23\x01\x01\x01\x01" "\x2B\x06\x01\x04\x01\xAE\x23\x01\x01\x01\x02",
     "\x2B\x06\x01\x04\x01\xAE\x23\x01\x01\x01\x03" "\x2B\x06\x01\x04\x01\xAE\x23\x01\x01\x01\x04"
     "\x2B\x06\x01\x04\x01\xAE\x23\x01\x01\x01\x05" "\x2B\x06\x01\x04\x01\xAE\x23\x01\x01\x01\x06"
-    "\x2B\x06\x01\x04\x01\xAE\x23\x01\x01\x01\x07" "\x2B\x06\x01\x04\x01\xAE\x23\x01\x01\x01\x08",
+    "\x2B\x06\x01\x04\x01\xAE\x23\x01\x01\x01\x07" "\x2B\x06\x01\x04\x01\xAE\x23\x01\x01\x01\x08"
     "\x2B\x06\x01\x04\x01\xAE\x23\x01\x01\x01\x09" "\x2B\x06\x01\x04\x01\xAE\x23\x01\x01\x01\x0A"
     "\x2B\x06\x01\x04\x01\xAE\x23\x01\x01\x01\x0B" "\x2B\x06\x01\x04\x01\xAE\x23\x01\x01\x01\x0C"
     "\x2B\x06\x01\x04\x01\xAE\x23\x01\x01\x01\x0D" "\x2B\x06\x01\x04\x01\xAE\x23\x01\x01\x01\x10"
@@ -1282,11 +1278,11 @@ CONST_OID_TABLE const uint8_t const_oid_common_bytes[][512] = {
     "\x2B\x06\x01\x04\x01\xB7\x7D\x02\x01\x26" "\x2B\x06\x01\x04\x01\xB7\x7D\x02\x01\x27"
     "\x2B\x06\x01\x04\x01\xB7\x7D\x02\x01\x28" "\x2B\x06\x01\x04\x01\xB7\x7D\x02\x01\x29"
     "\x2B\x06\x01\x04\x01\xB7\x7D\x02\x01\x2A" "\x2B\x06\x01\x04\x01\xB7\x7D\x02\x01\x2B"
-    "\x2B\x06\x01\x04\x01\xB7\x7D\x02\x01\x2C" "\x2B\x06\x01\x04\x01\xB7\x7D\x02\x01\x2D"
+    "\x2B\x06\x01\x04\x01\xB7\x7D\x02\x01\x2C" "\x2B\x06\x01\x04\x01\xB7\x7D\x02\x01\x2D",
     "\x2B\x06\x01\x04\x01\xB7\x7D\x02\x01\x2E" "\x2B\x06\x01\x04\x01\xB7\x7D\x02\x01\x2F"
     "\x2B\x06\x01\x04\x01\xB7\x7D\x02\x01\x30" "\x2B\x06\x01\x04\x01\xB7\x7D\x02\x01\x31"
     "\x2B\x06\x01\x04\x01\xB7\x7D\x02\x01\x33" "\x2B\x06\x01\x04\x01\xB7\x7D\x02\x01\x35"
-    "\x2B\x06\x01\x04\x01\xB7\x7D\x02\x01\x36", "\x2B\x06\x01\x04\x01\xB7\x7D\x02\x01\x37"
+    "\x2B\x06\x01\x04\x01\xB7\x7D\x02\x01\x36" "\x2B\x06\x01\x04\x01\xB7\x7D\x02\x01\x37"
     "\x2B\x06\x01\x04\x01\xB7\x7D\x02\x01\x3A" "\x2B\x06\x01\x04\x01\xB7\x7D\x02\x01\x3B"
     "\x2B\x06\x01\x04\x01\xB7\x7D\x02\x01\x3C" "\x2B\x06\x01\x04\x01\xB7\x7D\x02\x01\x3D"
     "\x2B\x06\x01\x04\x01\xB7\x7D\x02\x01\x3E" "\x2B\x06\x01\x04\x01\xB7\x7D\x02\x01\x3F"
@@ -1307,10 +1303,10 @@ CONST_OID_TABLE const uint8_t const_oid_common_bytes[][512] = {
     "\x2B\x06\x01\x04\x01\xB7\x7D\x02\x02\x10" "\x2B\x06\x01\x04\x01\xBF\x08" "\x2B\x06\x01\x04\x01\xBF\x08\x01"
     "\x2B\x06\x01\x04\x01\xBF\x08\x01\x01" "\x2B\x06\x01\x04\x01\xBF\x08\x01\x02"
     "\x2B\x06\x01\x04\x01\xBF\x08\x01\x02\x01" "\x2B\x06\x01\x04\x01\xBF\x08\x01\x02\x01\x01"
-    "\x2B\x06\x01\x04\x01\xBF\x08\x01\x02\x01\x01\x01" "\x2B\x06\x01\x04\x01\xBF\x08\x01\x02\x01\x01\x02"
+    "\x2B\x06\x01\x04\x01\xBF\x08\x01\x02\x01\x01\x01" "\x2B\x06\x01\x04\x01\xBF\x08\x01\x02\x01\x01\x02",
     "\x2B\x06\x01\x04\x01\xBF\x08\x01\x02\x01\x01\x03" "\x2B\x06\x01\x04\x01\xBF\x08\x01\x02\x01\x01\x04"
     "\x2B\x06\x01\x04\x01\xBF\x08\x01\x02\x01\x01\x05" "\x2B\x06\x01\x04\x01\xBF\x08\x01\x02\x01\x01\x06"
-    "\x2B\x06\x01\x04\x01\xBF\x08\x01\x03" "\x2B\x06\x01\x04\x01\xBF\x08\x01\x03\x01",
+    "\x2B\x06\x01\x04\x01\xBF\x08\x01\x03" "\x2B\x06\x01\x04\x01\xBF\x08\x01\x03\x01"
     "\x2B\x06\x01\x04\x01\xBF\x08\x01\x03\x02" "\x2B\x06\x01\x04\x01\xBF\x08\x01\x03\x02\x01"
     "\x2B\x06\x01\x04\x01\xBF\x08\x01\x03\x02\x02" "\x2B\x06\x01\x04\x01\xBF\x08\x01\x03\x02\x02\x01"
     "\x2B\x06\x01\x04\x01\xBF\x08\x01\x03\x02\x02\x01\x01" "\x2B\x06\x01\x04\x01\xBF\x08\x01\x03\x02\x02\x01\x02"
@@ -1329,10 +1325,10 @@ CONST_OID_TABLE const uint8_t const_oid_common_bytes[][512] = {
     "\x2B\x06\x01\x04\x01\xBF\x08\x01\x05\x03" "\x2B\x06\x01\x04\x01\xBF\x08\x01\x05\x03\x01"
     "\x2B\x06\x01\x04\x01\xBF\x08\x01\x05\x03\x01\x01" "\x2B\x06\x01\x04\x01\xBF\x08\x01\x05\x03\x01\x02"
     "\x2B\x06\x01\x04\x01\xBF\x08\x01\x05\x03\x01\x03" "\x2B\x06\x01\x04\x01\xBF\x08\x01\x06"
-    "\x2B\x06\x01\x04\x01\xBF\x08\x01\x07" "\x2B\x06\x01\x04\x01\xBF\x08\x01\x07\x01"
+    "\x2B\x06\x01\x04\x01\xBF\x08\x01\x07" "\x2B\x06\x01\x04\x01\xBF\x08\x01\x07\x01",
     "\x2B\x06\x01\x04\x01\xBF\x08\x01\x07\x01\x01" "\x2B\x06\x01\x04\x01\xBF\x08\x01\x07\x01\x02"
     "\x2B\x06\x01\x04\x01\xBF\x08\x01\x07\x01\x03" "\x2B\x06\x01\x04\x01\xBF\x08\x01\x07\x01\x04"
-    "\x2B\x06\x01\x04\x01\xBF\x08\x01\x07\x01\x04\x01" "\x2B\x06\x01\x04\x01\xBF\x08\x01\x07\x01\x04\x01\x02",
+    "\x2B\x06\x01\x04\x01\xBF\x08\x01\x07\x01\x04\x01" "\x2B\x06\x01\x04\x01\xBF\x08\x01\x07\x01\x04\x01\x02"
     "\x2B\x06\x01\x04\x01\xBF\x08\x01\x07\x01\x04\x01\x04" "\x2B\x06\x01\x04\x01\xBF\x08\x01\x07\x02"
     "\x2B\x06\x01\x04\x01\xBF\x08\x01\x07\x02\x01" "\x2B\x06\x01\x04\x01\xBF\x08\x01\x07\x02\x01\x01"
     "\x2B\x06\x01\x04\x01\xBF\x08\x01\x07\x02\x01\x01\x01" "\x2B\x06\x01\x04\x01\xBF\x08\x01\x07\x02\x01\x01\x02"
@@ -1351,10 +1347,10 @@ CONST_OID_TABLE const uint8_t const_oid_common_bytes[][512] = {
     "\x2B\x06\x01\x04\x01\xBF\x08\x02\x02\x01\x01\x02" "\x2B\x06\x01\x04\x01\xBF\x08\x02\x02\x01\x01\x03"
     "\x2B\x06\x01\x04\x01\xBF\x08\x02\x02\x02" "\x2B\x06\x01\x04\x01\xBF\x08\x02\x02\x02\x01"
     "\x2B\x06\x01\x04\x01\xBF\x08\x02\x02\x02\x01\x01" "\x2B\x06\x01\x04\x01\xBF\x08\x02\x02\x02\x01\x02"
-    "\x2B\x06\x01\x04\x01\xBF\x08\x02\x02\x02\x01\x03" "\x2B\x06\x01\x04\x01\xBF\x08\x02\x02\x02\x01\x04"
+    "\x2B\x06\x01\x04\x01\xBF\x08\x02\x02\x02\x01\x03" "\x2B\x06\x01\x04\x01\xBF\x08\x02\x02\x02\x01\x04",
     "\x2B\x06\x01\x04\x01\xBF\x08\x02\x02\x02\x01\x05" "\x2B\x06\x01\x04\x01\xBF\x08\x02\x03"
     "\x2B\x06\x01\x04\x01\xBF\x08\x02\x03\x00" "\x2B\x06\x01\x04\x01\xBF\x08\x02\x03\x00\x01"
-    "\x2B\x06\x01\x04\x01\xBF\x08\x02\x03\x01" "\x2B\x06\x01\x04\x01\xBF\x08\x02\x03\x02",
+    "\x2B\x06\x01\x04\x01\xBF\x08\x02\x03\x01" "\x2B\x06\x01\x04\x01\xBF\x08\x02\x03\x02"
     "\x2B\x06\x01\x04\x01\xBF\x08\x02\x03\x02\x01" "\x2B\x06\x01\x04\x01\xBF\x08\x02\x03\x02\x02"
     "\x2B\x06\x01\x04\x01\xBF\x08\x02\x81\x7F" "\x2B\x06\x01\x04\x01\xBF\x08\x02\x81\x7F\x01"
     "\x2B\x06\x01\x04\x01\xBF\x08\x02\x81\x7F\x02" "\x2B\x06\x01\x04\x01\xBF\x08\x02\x81\x7F\x02\x01"
@@ -1365,34 +1361,42 @@ CONST_OID_TABLE const uint8_t const_oid_common_bytes[][512] = {
     "\x2B\x06\x01\x04\x01\xBF\x08\x02\x81\x7F\x08" "\x2B\x06\x01\x04\x01\xBF\x08\x02\x81\x7F\x63"
     "\x2B\x06\x01\x04\x01\xBF\x08\x03" "\x2B\x06\x01\x04\x01\xBF\x08\x03\x01" "\x2B\x06\x01\x04\x01\xBF\x08\x03\x01\x01"
     "\x2B\x06\x01\x04\x01\xBF\x08\x03\x01\x02" "\x2B\x06\x01\x04\x01\xBF\x08\x03\x02"
-    "\x2B\x06\x01\x04\x01\xBF\x08\x03\x02\x07" "\x2B\x06\x01\x04\x01\xBF\x08\x03\x02\x0A"
-    "\x2B\x06\x01\x04\x01\xBF\x08\x03\x03" "\x2B\x06\x01\x04\x01\xBF\x08\x03\x03\x01"
-    "\x2B\x06\x01\x04\x01\xBF\x08\x03\x03\x02" "\x2B\x06\x01\x04\x01\xBF\x08\x03\x03\x03"
-    "\x2B\x06\x01\x04\x01\xBF\x08\x03\x03\x04" "\x2B\x06\x01\x04\x01\xBF\x08\x03\x03\x05"
-    "\x2B\x06\x01\x04\x01\xBF\x08\x03\x03\x06" "\x2B\x06\x01\x04\x01\xBF\x08\x03\x03\x07"
-    "\x2B\x06\x01\x04\x01\xBF\x08\x03\x03\x08" "\x2B\x06\x01\x04\x01\xBF\x08\x03\x03\x09"
-    "\x2B\x06\x01\x04\x01\xBF\x08\x03\x03\x0A" "\x2B\x06\x01\x04\x01\xBF\x08\x04" "\x2B\x06\x01\x04\x01\xBF\x08\x04\x00"
-    "\x2B\x06\x01\x04\x01\xBF\x08\x04\x00\x01" "\x2B\x06\x01\x04\x01\xBF\x08\x04\x00\x02"
-    "\x2B\x06\x01\x04\x01\xBF\x08\x04\x00\x03" "\x2B\x06\x01\x04\x01\xBF\x08\x04\x01" "\x2B\x06\x01\x04\x01\xBF\x08\x05"
-    "\x2B\x06\x01\x04\x01\xBF\x08\x05\x01" "\x2B\x06\x01\x04\x01\xBF\x08\x05\x02"
-    "\x2B\x06\x01\x04\x01\xBF\x08\x05\x02\x02" "\x2B\x06\x01\x04\x01\xBF\x08\x05\x02\x04"
-    "\x2B\x06\x01\x04\x01\xBF\x08\x05\x02\x07" "\x2B\x06\x01\x04\x01\xBF\x08\x05\x02\x07\x01"
-    "\x2B\x06\x01\x04\x01\xBF\x08\x05\x02\x07\x02" "\x2B\x06\x01\x04\x01\xBF\x08\x05\x02\x08",
-    "\x2B\x06\x01\x04\x01\xBF\x08\x05\x02\x09" "\x2B\x06\x01\x04\x01\xBF\x08\xCE\x0F"
-    "\x2B\x06\x01\x04\x01\xBF\x08\xCE\x0F\xCE\x0F" "\x2B\x06\x01\x04\x01\xD6\x79\x02\x04\x02"
-    "\x2B\x06\x01\x04\x01\xD6\x79\x02\x04\x03" "\x2B\x06\x01\x04\x01\xD6\x79\x02\x04\x04"
-    "\x2B\x06\x01\x04\x01\xD6\x79\x02\x04\x05" "\x2B\x06\x01\x04\x01\xDA\x47\x04\x0B"
-    "\x2B\x06\x01\x04\x01\xDA\x47\x0F\x01" "\x2B\x06\x01\x04\x01\xFC\x51\x09\x01\x01"
-    "\x2B\x06\x01\x04\x01\xFC\x51\x09\x01\x02" "\x2B\x06\x01\x04\x01\xFC\x51\x09\x01\x03"
-    "\x2B\x06\x01\x04\x01\xFC\x51\x09\x01\x04" "\x2B\x06\x01\x04\x01\xFC\x51\x09\x01\x05"
-    "\x2B\x06\x01\x04\x01\xFC\x51\x09\x01\x06" "\x2B\x06\x01\x04\x01\xFC\x51\x09\x01\x07"
-    "\x2B\x06\x01\x04\x01\xFC\x51\x09\x01\x08" "\x2B\x06\x01\x04\x01\xFC\x51\x09\x01\x09"
-    "\x2B\x06\x01\x04\x01\xFC\x51\x09\x01\x0A" "\x2B\x06\x01\x04\x01\xFC\x51\x09\x02\x01"
-    "\x2B\x06\x01\x04\x01\x81\xA4\x10\x6C\x3F\x01" "\x2B\x06\x01\x04\x01\x81\xBF\x68\x83\x74\x01\x01\x01\x0D"
+    "\x2B\x06\x01\x04\x01\xBF\x08\x03\x02\x01" "\x2B\x06\x01\x04\x01\xBF\x08\x03\x02\x02"
+    "\x2B\x06\x01\x04\x01\xBF\x08\x03\x02\x03" "\x2B\x06\x01\x04\x01\xBF\x08\x03\x02\x04"
+    "\x2B\x06\x01\x04\x01\xBF\x08\x03\x02\x05" "\x2B\x06\x01\x04\x01\xBF\x08\x03\x02\x06"
+    "\x2B\x06\x01\x04\x01\xBF\x08\x03\x02\x07" "\x2B\x06\x01\x04\x01\xBF\x08\x03\x02\x08"
+    "\x2B\x06\x01\x04\x01\xBF\x08\x03\x02\x09" "\x2B\x06\x01\x04\x01\xBF\x08\x03\x02\x0A"
+    "\x2B\x06\x01\x04\x01\xBF\x08\x03\x02\x0B" "\x2B\x06\x01\x04\x01\xBF\x08\x03\x02\x0C"
+    "\x2B\x06\x01\x04\x01\xBF\x08\x03\x02\x0D" "\x2B\x06\x01\x04\x01\xBF\x08\x03\x02\x0E"
+    "\x2B\x06\x01\x04\x01\xBF\x08\x03\x02\x0F" "\x2B\x06\x01\x04\x01\xBF\x08\x03\x02\x10"
+    "\x2B\x06\x01\x04\x01\xBF\x08\x03\x02\x11" "\x2B\x06\x01\x04\x01\xBF\x08\x03\x03"
+    "\x2B\x06\x01\x04\x01\xBF\x08\x03\x03\x01" "\x2B\x06\x01\x04\x01\xBF\x08\x03\x03\x02"
+    "\x2B\x06\x01\x04\x01\xBF\x08\x03\x03\x03" "\x2B\x06\x01\x04\x01\xBF\x08\x03\x03\x04",
+    "\x2B\x06\x01\x04\x01\xBF\x08\x03\x03\x05" "\x2B\x06\x01\x04\x01\xBF\x08\x03\x03\x06"
+    "\x2B\x06\x01\x04\x01\xBF\x08\x03\x03\x07" "\x2B\x06\x01\x04\x01\xBF\x08\x03\x03\x08"
+    "\x2B\x06\x01\x04\x01\xBF\x08\x03\x03\x09" "\x2B\x06\x01\x04\x01\xBF\x08\x03\x03\x0A"
+    "\x2B\x06\x01\x04\x01\xBF\x08\x04" "\x2B\x06\x01\x04\x01\xBF\x08\x04\x00" "\x2B\x06\x01\x04\x01\xBF\x08\x04\x00\x01"
+    "\x2B\x06\x01\x04\x01\xBF\x08\x04\x00\x02" "\x2B\x06\x01\x04\x01\xBF\x08\x04\x00\x03"
+    "\x2B\x06\x01\x04\x01\xBF\x08\x04\x01" "\x2B\x06\x01\x04\x01\xBF\x08\x05" "\x2B\x06\x01\x04\x01\xBF\x08\x05\x01"
+    "\x2B\x06\x01\x04\x01\xBF\x08\x05\x02" "\x2B\x06\x01\x04\x01\xBF\x08\x05\x02\x02"
+    "\x2B\x06\x01\x04\x01\xBF\x08\x05\x02\x04" "\x2B\x06\x01\x04\x01\xBF\x08\x05\x02\x07"
+    "\x2B\x06\x01\x04\x01\xBF\x08\x05\x02\x07\x01" "\x2B\x06\x01\x04\x01\xBF\x08\x05\x02\x07\x02"
+    "\x2B\x06\x01\x04\x01\xBF\x08\x05\x02\x08" "\x2B\x06\x01\x04\x01\xBF\x08\x05\x02\x09"
+    "\x2B\x06\x01\x04\x01\xBF\x08\xCE\x0F" "\x2B\x06\x01\x04\x01\xBF\x08\xCE\x0F\xCE\x0F"
+    "\x2B\x06\x01\x04\x01\xD6\x79\x02\x04\x02" "\x2B\x06\x01\x04\x01\xD6\x79\x02\x04\x03"
+    "\x2B\x06\x01\x04\x01\xD6\x79\x02\x04\x04" "\x2B\x06\x01\x04\x01\xD6\x79\x02\x04\x05"
+    "\x2B\x06\x01\x04\x01\xDA\x47\x04\x0B" "\x2B\x06\x01\x04\x01\xDA\x47\x0F\x01"
+    "\x2B\x06\x01\x04\x01\xFC\x51\x09\x01\x01" "\x2B\x06\x01\x04\x01\xFC\x51\x09\x01\x02"
+    "\x2B\x06\x01\x04\x01\xFC\x51\x09\x01\x03" "\x2B\x06\x01\x04\x01\xFC\x51\x09\x01\x04"
+    "\x2B\x06\x01\x04\x01\xFC\x51\x09\x01\x05" "\x2B\x06\x01\x04\x01\xFC\x51\x09\x01\x06"
+    "\x2B\x06\x01\x04\x01\xFC\x51\x09\x01\x07" "\x2B\x06\x01\x04\x01\xFC\x51\x09\x01\x08"
+    "\x2B\x06\x01\x04\x01\xFC\x51\x09\x01\x09" "\x2B\x06\x01\x04\x01\xFC\x51\x09\x01\x0A"
+    "\x2B\x06\x01\x04\x01\xFC\x51\x09\x02\x01" "\x2B\x06\x01\x04\x01\x81\xA4\x10\x6C\x3F\x01"
+    "\x2B\x06\x01\x04\x01\x81\xBF\x68\x83\x74\x01\x01\x01\x0D"
     "\x2B\x06\x01\x04\x01\x81\xBF\x68\x83\x74\x01\x01\x02\x00" "\x2B\x06\x01\x04\x01\x81\xC4\x5A\x01\x00\x02\x03"
     "\x2B\x06\x01\x04\x01\x81\xC4\x5A\x01\x02\x01" "\x2B\x06\x01\x04\x01\x81\xC4\x5A\x01\x02\x02"
     "\x2B\x06\x01\x04\x01\x81\xC4\x5A\x01\x02\x03" "\x2B\x06\x01\x04\x01\x81\xC4\x5A\x01\x02\x04"
-    "\x2B\x06\x01\x04\x01\x81\xC4\x5A\x01\x02\x05" "\x2B\x06\x01\x04\x01\x81\xC4\x5A\x01\x02\x06"
+    "\x2B\x06\x01\x04\x01\x81\xC4\x5A\x01\x02\x05", "\x2B\x06\x01\x04\x01\x81\xC4\x5A\x01\x02\x06"
     "\x2B\x06\x01\x04\x01\x81\xC4\x5A\x01\x02\x07" "\x2B\x06\x01\x04\x01\x81\xC4\x5A\x01\x02\x08"
     "\x2B\x06\x01\x04\x01\x81\xC4\x5A\x01\x02\x09" "\x2B\x06\x01\x04\x01\x81\xC4\x5A\x01\x02\x0A"
     "\x2B\x06\x01\x04\x01\x81\xC4\x5A\x01\x02\x0B" "\x2B\x06\x01\x04\x01\x81\xC4\x5A\x01\x02\x0C"
@@ -1401,7 +1405,7 @@ CONST_OID_TABLE const uint8_t const_oid_common_bytes[][512] = {
     "\x2B\x06\x01\x04\x01\x81\xC4\x5A\x01\x02\x12" "\x2B\x06\x01\x04\x01\x81\xC4\x5A\x01\x02\x13"
     "\x2B\x06\x01\x04\x01\x81\xC4\x5A\x01\x02\x14" "\x2B\x06\x01\x04\x01\x81\xC4\x5A\x01\x02\x15"
     "\x2B\x06\x01\x04\x01\x82\xE4\x25\x01" "\x2B\x06\x01\x04\x01\x83\x92\x1B\x02\x01" "\x2B\x06\x01\x05"
-    "\x2B\x06\x01\x05\x02" "\x2B\x06\x01\x05\x02\x02" "\x2B\x06\x01\x05\x02\x03", "\x2B\x06\x01\x05\x02\x03\x01"
+    "\x2B\x06\x01\x05\x02" "\x2B\x06\x01\x05\x02\x02" "\x2B\x06\x01\x05\x02\x03" "\x2B\x06\x01\x05\x02\x03\x01"
     "\x2B\x06\x01\x05\x02\x03\x02" "\x2B\x06\x01\x05\x02\x03\x03" "\x2B\x06\x01\x05\x02\x03\x04"
     "\x2B\x06\x01\x05\x02\x03\x05" "\x2B\x06\x01\x05\x02\x03\x06" "\x2B\x06\x01\x05\x02\x03\x06\x01"
     "\x2B\x06\x01\x05\x02\x03\x06\x02" "\x2B\x06\x01\x05\x02\x03\x06\x03" "\x2B\x06\x01\x05\x02\x03\x06\x04"
@@ -1414,7 +1418,7 @@ CONST_OID_TABLE const uint8_t const_oid_common_bytes[][512] = {
     "\x2B\x06\x01\x05\x05\x07\x00\x0F" "\x2B\x06\x01\x05\x05\x07\x00\x10" "\x2B\x06\x01\x05\x05\x07\x00\x32"
     "\x2B\x06\x01\x05\x05\x07\x00\x63" "\x2B\x06\x01\x05\x05\x07\x00\x64" "\x2B\x06\x01\x05\x05\x07\x01"
     "\x2B\x06\x01\x05\x05\x07\x01\x01" "\x2B\x06\x01\x05\x05\x07\x01\x02" "\x2B\x06\x01\x05\x05\x07\x01\x03"
-    "\x2B\x06\x01\x05\x05\x07\x01\x04" "\x2B\x06\x01\x05\x05\x07\x01\x05" "\x2B\x06\x01\x05\x05\x07\x01\x06"
+    "\x2B\x06\x01\x05\x05\x07\x01\x04", "\x2B\x06\x01\x05\x05\x07\x01\x05" "\x2B\x06\x01\x05\x05\x07\x01\x06"
     "\x2B\x06\x01\x05\x05\x07\x01\x07" "\x2B\x06\x01\x05\x05\x07\x01\x08" "\x2B\x06\x01\x05\x05\x07\x01\x09"
     "\x2B\x06\x01\x05\x05\x07\x01\x0A" "\x2B\x06\x01\x05\x05\x07\x01\x0B" "\x2B\x06\x01\x05\x05\x07\x01\x0C"
     "\x2B\x06\x01\x05\x05\x07\x01\x0D" "\x2B\x06\x01\x05\x05\x07\x01\x0E" "\x2B\x06\x01\x05\x05\x07\x01\x12"
@@ -1422,7 +1426,7 @@ CONST_OID_TABLE const uint8_t const_oid_common_bytes[][512] = {
     "\x2B\x06\x01\x05\x05\x07\x01\x19" "\x2B\x06\x01\x05\x05\x07\x01\x1A" "\x2B\x06\x01\x05\x05\x07\x01\x1B"
     "\x2B\x06\x01\x05\x05\x07\x01\x1C" "\x2B\x06\x01\x05\x05\x07\x01\x1D" "\x2B\x06\x01\x05\x05\x07\x01\x1E"
     "\x2B\x06\x01\x05\x05\x07\x01\x1F" "\x2B\x06\x01\x05\x05\x07\x02" "\x2B\x06\x01\x05\x05\x07\x02\x01"
-    "\x2B\x06\x01\x05\x05\x07\x02\x02" "\x2B\x06\x01\x05\x05\x07\x02\x03" "\x2B\x06\x01\x05\x05\x07\x03",
+    "\x2B\x06\x01\x05\x05\x07\x02\x02" "\x2B\x06\x01\x05\x05\x07\x02\x03" "\x2B\x06\x01\x05\x05\x07\x03"
     "\x2B\x06\x01\x05\x05\x07\x03\x01" "\x2B\x06\x01\x05\x05\x07\x03\x02" "\x2B\x06\x01\x05\x05\x07\x03\x03"
     "\x2B\x06\x01\x05\x05\x07\x03\x04" "\x2B\x06\x01\x05\x05\x07\x03\x05" "\x2B\x06\x01\x05\x05\x07\x03\x06"
     "\x2B\x06\x01\x05\x05\x07\x03\x07" "\x2B\x06\x01\x05\x05\x07\x03\x08" "\x2B\x06\x01\x05\x05\x07\x03\x09"
@@ -1435,7 +1439,7 @@ CONST_OID_TABLE const uint8_t const_oid_common_bytes[][512] = {
     "\x2B\x06\x01\x05\x05\x07\x03\x1E" "\x2B\x06\x01\x05\x05\x07\x03\x1F" "\x2B\x06\x01\x05\x05\x07\x03\x20"
     "\x2B\x06\x01\x05\x05\x07\x04\x08" "\x2B\x06\x01\x05\x05\x07\x04\x09" "\x2B\x06\x01\x05\x05\x07\x04\x11"
     "\x2B\x06\x01\x05\x05\x07\x04\x12" "\x2B\x06\x01\x05\x05\x07\x04\x13" "\x2B\x06\x01\x05\x05\x07\x04\x14"
-    "\x2B\x06\x01\x05\x05\x07\x04\x15" "\x2B\x06\x01\x05\x05\x07\x04\x16" "\x2B\x06\x01\x05\x05\x07\x04\x17"
+    "\x2B\x06\x01\x05\x05\x07\x04\x15", "\x2B\x06\x01\x05\x05\x07\x04\x16" "\x2B\x06\x01\x05\x05\x07\x04\x17"
     "\x2B\x06\x01\x05\x05\x07\x05\x01\x07" "\x2B\x06\x01\x05\x05\x07\x05\x01\x0B" "\x2B\x06\x01\x05\x05\x07\x05\x01\x0C"
     "\x2B\x06\x01\x05\x05\x07\x06\x01" "\x2B\x06\x01\x05\x05\x07\x06\x03" "\x2B\x06\x01\x05\x05\x07\x06\x04"
     "\x2B\x06\x01\x05\x05\x07\x06\x1E" "\x2B\x06\x01\x05\x05\x07\x06\x1F" "\x2B\x06\x01\x05\x05\x07\x06\x20"
@@ -1443,7 +1447,7 @@ CONST_OID_TABLE const uint8_t const_oid_common_bytes[][512] = {
     "\x2B\x06\x01\x05\x05\x07\x07\x25" "\x2B\x06\x01\x05\x05\x07\x08\x01" "\x2B\x06\x01\x05\x05\x07\x08\x03"
     "\x2B\x06\x01\x05\x05\x07\x08\x04" "\x2B\x06\x01\x05\x05\x07\x08\x05" "\x2B\x06\x01\x05\x05\x07\x08\x06"
     "\x2B\x06\x01\x05\x05\x07\x08\x07" "\x2B\x06\x01\x05\x05\x07\x08\x08" "\x2B\x06\x01\x05\x05\x07\x08\x09"
-    "\x2B\x06\x01\x05\x05\x07\x09\x01" "\x2B\x06\x01\x05\x05\x07\x09\x02" "\x2B\x06\x01\x05\x05\x07\x09\x03",
+    "\x2B\x06\x01\x05\x05\x07\x09\x01" "\x2B\x06\x01\x05\x05\x07\x09\x02" "\x2B\x06\x01\x05\x05\x07\x09\x03"
     "\x2B\x06\x01\x05\x05\x07\x09\x04" "\x2B\x06\x01\x05\x05\x07\x09\x05" "\x2B\x06\x01\x05\x05\x07\x0A\x01"
     "\x2B\x06\x01\x05\x05\x07\x0A\x02" "\x2B\x06\x01\x05\x05\x07\x0A\x03" "\x2B\x06\x01\x05\x05\x07\x0A\x05"
     "\x2B\x06\x01\x05\x05\x07\x0A\x07" "\x2B\x06\x01\x05\x05\x07\x0B\x01" "\x2B\x06\x01\x05\x05\x07\x0B\x02"
@@ -1455,7 +1459,7 @@ CONST_OID_TABLE const uint8_t const_oid_common_bytes[][512] = {
     "\x2B\x06\x01\x05\x05\x07\x30\x01\x03" "\x2B\x06\x01\x05\x05\x07\x30\x01\x04" "\x2B\x06\x01\x05\x05\x07\x30\x01\x05"
     "\x2B\x06\x01\x05\x05\x07\x30\x01\x06" "\x2B\x06\x01\x05\x05\x07\x30\x01\x07" "\x2B\x06\x01\x05\x05\x07\x30\x01\x08"
     "\x2B\x06\x01\x05\x05\x07\x30\x01\x09" "\x2B\x06\x01\x05\x05\x07\x30\x01\x0A" "\x2B\x06\x01\x05\x05\x07\x30\x01\x0B"
-    "\x2B\x06\x01\x05\x05\x07\x30\x02" "\x2B\x06\x01\x05\x05\x07\x30\x03" "\x2B\x06\x01\x05\x05\x07\x30\x04"
+    "\x2B\x06\x01\x05\x05\x07\x30\x02" "\x2B\x06\x01\x05\x05\x07\x30\x03" "\x2B\x06\x01\x05\x05\x07\x30\x04",
     "\x2B\x06\x01\x05\x05\x07\x30\x05" "\x2B\x06\x01\x05\x05\x07\x30\x06" "\x2B\x06\x01\x05\x05\x07\x30\x07"
     "\x2B\x06\x01\x05\x05\x07\x30\x0A" "\x2B\x06\x01\x05\x05\x07\x30\x0B" "\x2B\x06\x01\x05\x05\x07\x30\x0C"
     "\x2B\x06\x01\x05\x05\x07\x30\x0D" "\x2B\x06\x01\x05\x05\x07\x30\x0E" "\x2B\x06\x01\x05\x05\x08\x01\x01"
@@ -1464,19 +1468,19 @@ CONST_OID_TABLE const uint8_t const_oid_common_bytes[][512] = {
     "\x2B\x06\x01\x06\x02" "\x2B\x06\x01\x06\x03" "\x2B\x06\x01\x06\x03\x01" "\x2B\x06\x01\x06\x03\x01\x01"
     "\x2B\x06\x01\x06\x03\x01\x01\x04" "\x2B\x06\x01\x06\x03\x01\x01\x04\x01" "\x2B\x06\x01\x06\x03\x01\x01\x04\x03"
     "\x2B\x06\x01\x06\x03\x01\x01\x05" "\x2B\x06\x01\x06\x03\x01\x01\x05\x01" "\x2B\x06\x01\x06\x03\x01\x01\x05\x02"
-    "\x2B\x06\x01\x06\x03\x01\x01\x05\x03" "\x2B\x06\x01\x06\x03\x01\x01\x05\x04",
-    "\x2B\x06\x01\x06\x03\x01\x01\x05\x05" "\x2B\x06\x01\x06\x03\x01\x01\x06" "\x2B\x06\x01\x06\x03\x01\x01\x06\x01"
-    "\x2B\x06\x01\x06\x03\x01\x02" "\x2B\x06\x01\x06\x03\x01\x02\x01" "\x2B\x06\x01\x06\x03\x01\x02\x01\x02"
-    "\x2B\x06\x01\x06\x03\x01\x02\x01\x03" "\x2B\x06\x01\x06\x03\x01\x02\x02" "\x2B\x06\x01\x06\x03\x01\x02\x02\x05"
-    "\x2B\x06\x01\x06\x03\x01\x02\x02\x06" "\x2B\x06\x01\x06\x03\x01\x02\x02\x07" "\x2B\x06\x01\x06\x03\x01\x02\x02\x08"
-    "\x2B\x06\x01\x06\x03\x01\x02\x02\x09" "\x2B\x06\x01\x06\x03\x01\x02\x02\x0A" "\x2B\x06\x01\x06\x03\x01\x02\x02\x0B"
-    "\x2B\x06\x01\x06\x03\x01\x02\x02\x0C" "\x2B\x06\x01\x06\x03\x0A" "\x2B\x06\x01\x06\x03\x0A\x01"
-    "\x2B\x06\x01\x06\x03\x0A\x01\x01" "\x2B\x06\x01\x06\x03\x0A\x01\x01\x01" "\x2B\x06\x01\x06\x03\x0A\x01\x01\x02"
-    "\x2B\x06\x01\x06\x03\x0A\x01\x01\x03" "\x2B\x06\x01\x06\x03\x0A\x01\x02" "\x2B\x06\x01\x06\x03\x0A\x01\x02\x01"
-    "\x2B\x06\x01\x06\x03\x0A\x01\x02\x02" "\x2B\x06\x01\x06\x03\x0A\x02" "\x2B\x06\x01\x06\x03\x0A\x02\x01"
-    "\x2B\x06\x01\x06\x03\x0A\x02\x01\x01" "\x2B\x06\x01\x06\x03\x0A\x02\x01\x02" "\x2B\x06\x01\x06\x03\x0A\x02\x01\x03"
-    "\x2B\x06\x01\x06\x03\x0A\x02\x01\x04" "\x2B\x06\x01\x06\x03\x0F" "\x2B\x06\x01\x06\x03\x0F\x01"
-    "\x2B\x06\x01\x06\x03\x0F\x01\x01" "\x2B\x06\x01\x06\x03\x0F\x01\x01\x01" "\x2B\x06\x01\x06\x03\x0F\x01\x01\x02"
+    "\x2B\x06\x01\x06\x03\x01\x01\x05\x03" "\x2B\x06\x01\x06\x03\x01\x01\x05\x04" "\x2B\x06\x01\x06\x03\x01\x01\x05\x05"
+    "\x2B\x06\x01\x06\x03\x01\x01\x06" "\x2B\x06\x01\x06\x03\x01\x01\x06\x01" "\x2B\x06\x01\x06\x03\x01\x02"
+    "\x2B\x06\x01\x06\x03\x01\x02\x01" "\x2B\x06\x01\x06\x03\x01\x02\x01\x02" "\x2B\x06\x01\x06\x03\x01\x02\x01\x03"
+    "\x2B\x06\x01\x06\x03\x01\x02\x02" "\x2B\x06\x01\x06\x03\x01\x02\x02\x05" "\x2B\x06\x01\x06\x03\x01\x02\x02\x06"
+    "\x2B\x06\x01\x06\x03\x01\x02\x02\x07" "\x2B\x06\x01\x06\x03\x01\x02\x02\x08" "\x2B\x06\x01\x06\x03\x01\x02\x02\x09"
+    "\x2B\x06\x01\x06\x03\x01\x02\x02\x0A" "\x2B\x06\x01\x06\x03\x01\x02\x02\x0B" "\x2B\x06\x01\x06\x03\x01\x02\x02\x0C"
+    "\x2B\x06\x01\x06\x03\x0A" "\x2B\x06\x01\x06\x03\x0A\x01" "\x2B\x06\x01\x06\x03\x0A\x01\x01"
+    "\x2B\x06\x01\x06\x03\x0A\x01\x01\x01" "\x2B\x06\x01\x06\x03\x0A\x01\x01\x02" "\x2B\x06\x01\x06\x03\x0A\x01\x01\x03"
+    "\x2B\x06\x01\x06\x03\x0A\x01\x02" "\x2B\x06\x01\x06\x03\x0A\x01\x02\x01" "\x2B\x06\x01\x06\x03\x0A\x01\x02\x02"
+    "\x2B\x06\x01\x06\x03\x0A\x02" "\x2B\x06\x01\x06\x03\x0A\x02\x01" "\x2B\x06\x01\x06\x03\x0A\x02\x01\x01"
+    "\x2B\x06\x01\x06\x03\x0A\x02\x01\x02" "\x2B\x06\x01\x06\x03\x0A\x02\x01\x03" "\x2B\x06\x01\x06\x03\x0A\x02\x01\x04"
+    "\x2B\x06\x01\x06\x03\x0F" "\x2B\x06\x01\x06\x03\x0F\x01" "\x2B\x06\x01\x06\x03\x0F\x01\x01"
+    "\x2B\x06\x01\x06\x03\x0F\x01\x01\x01", "\x2B\x06\x01\x06\x03\x0F\x01\x01\x02"
     "\x2B\x06\x01\x06\x03\x0F\x01\x01\x03" "\x2B\x06\x01\x06\x03\x0F\x01\x01\x04" "\x2B\x06\x01\x06\x03\x0F\x01\x01\x05"
     "\x2B\x06\x01\x06\x03\x0F\x01\x01\x06" "\x2B\x06\x01\x06\x03\x0F\x01\x02" "\x2B\x06\x01\x06\x03\x0F\x01\x02\x01"
     "\x2B\x06\x01\x06\x03\x0F\x01\x02\x02" "\x2B\x06\x01\x06\x03\x0F\x01\x02\x02\x01"
@@ -1485,7 +1489,7 @@ CONST_OID_TABLE const uint8_t const_oid_common_bytes[][512] = {
     "\x2B\x06\x01\x06\x03\x0F\x01\x02\x02\x01\x05" "\x2B\x06\x01\x06\x03\x0F\x01\x02\x02\x01\x06"
     "\x2B\x06\x01\x06\x03\x0F\x01\x02\x02\x01\x07" "\x2B\x06\x01\x06\x03\x0F\x01\x02\x02\x01\x08"
     "\x2B\x06\x01\x06\x03\x0F\x01\x02\x02\x01\x09" "\x2B\x06\x01\x06\x03\x0F\x01\x02\x02\x01\x0A"
-    "\x2B\x06\x01\x06\x03\x0F\x01\x02\x02\x01\x0B" "\x2B\x06\x01\x06\x03\x0F\x01\x02\x02\x01\x0C",
+    "\x2B\x06\x01\x06\x03\x0F\x01\x02\x02\x01\x0B" "\x2B\x06\x01\x06\x03\x0F\x01\x02\x02\x01\x0C"
     "\x2B\x06\x01\x06\x03\x0F\x01\x02\x02\x01\x0D" "\x2B\x06\x01\x06\x03\x10" "\x2B\x06\x01\x06\x03\x10\x01"
     "\x2B\x06\x01\x06\x03\x10\x01\x01" "\x2B\x06\x01\x06\x03\x10\x01\x01\x01" "\x2B\x06\x01\x06\x03\x10\x01\x01\x01\x01"
     "\x2B\x06\x01\x06\x03\x10\x01\x01\x01\x02" "\x2B\x06\x01\x06\x03\x10\x01\x02" "\x2B\x06\x01\x06\x03\x10\x01\x02\x01"
@@ -1498,7 +1502,7 @@ CONST_OID_TABLE const uint8_t const_oid_common_bytes[][512] = {
     "\x2B\x06\x01\x06\x03\x10\x01\x04\x01\x07" "\x2B\x06\x01\x06\x03\x10\x01\x04\x01\x08"
     "\x2B\x06\x01\x06\x03\x10\x01\x04\x01\x09" "\x2B\x06\x01\x06\x03\x10\x01\x05" "\x2B\x06\x01\x06\x03\x10\x01\x05\x01"
     "\x2B\x06\x01\x06\x03\x10\x01\x05\x02" "\x2B\x06\x01\x06\x03\x10\x01\x05\x02\x01"
-    "\x2B\x06\x01\x06\x03\x10\x01\x05\x02\x01\x01" "\x2B\x06\x01\x06\x03\x10\x01\x05\x02\x01\x02"
+    "\x2B\x06\x01\x06\x03\x10\x01\x05\x02\x01\x01" "\x2B\x06\x01\x06\x03\x10\x01\x05\x02\x01\x02",
     "\x2B\x06\x01\x06\x03\x10\x01\x05\x02\x01\x03" "\x2B\x06\x01\x06\x03\x10\x01\x05\x02\x01\x04"
     "\x2B\x06\x01\x06\x03\x10\x01\x05\x02\x01\x05" "\x2B\x06\x01\x06\x03\x10\x01\x05\x02\x01\x06" "\x2B\x06\x01\x07"
     "\x2B\x06\x01\x07\x01" "\x2B\x06\x01\x07\x01\x01" "\x2B\x06\x01\x07\x01\x01\x01" "\x2B\x06\x01\x07\x01\x01\x02"
@@ -1507,7 +1511,7 @@ CONST_OID_TABLE const uint8_t const_oid_common_bytes[][512] = {
     "\x2B\x0E\x03\x02\x0C" "\x2B\x0E\x03\x02\x0D" "\x2B\x0E\x03\x02\x0F" "\x2B\x0E\x03\x02\x11" "\x2B\x0E\x03\x02\x12"
     "\x2B\x0E\x03\x02\x1A" "\x2B\x0E\x03\x02\x1B" "\x2B\x0E\x03\x02\x1D" "\x2B\x1A\x00\xA2\x36\x00\x04\x02"
     "\x2B\x24\x03\x02\x01" "\x2B\x24\x03\x03\x01\x02" "\x2B\x24\x08\x03\x03" "\x2B\x65\x01\x04\x01" "\x2B\x65\x6E"
-    "\x2B\x65\x6F" "\x2B\x65\x70" "\x2B\x65\x71" "\x2B\x6F" "\x2B\x6F\x02\x8C\x53" "\x2B\x6F\x02\x8C\x53\x00\x01\x01",
+    "\x2B\x65\x6F" "\x2B\x65\x70" "\x2B\x65\x71" "\x2B\x6F" "\x2B\x6F\x02\x8C\x53" "\x2B\x6F\x02\x8C\x53\x00\x01\x01"
     "\x2B\x6F\x02\x8C\x53\x00\x01\x02" "\x2B\x81\x04" "\x2B\x81\x04\x00\x01" "\x2B\x81\x04\x00\x02"
     "\x2B\x81\x04\x00\x03" "\x2B\x81\x04\x00\x04" "\x2B\x81\x04\x00\x05" "\x2B\x81\x04\x00\x06" "\x2B\x81\x04\x00\x07"
     "\x2B\x81\x04\x00\x08" "\x2B\x81\x04\x00\x09" "\x2B\x81\x04\x00\x0A" "\x2B\x81\x04\x00\x0F" "\x2B\x81\x04\x00\x10"
@@ -1520,7 +1524,7 @@ CONST_OID_TABLE const uint8_t const_oid_common_bytes[][512] = {
     "\x55\x04\x0B" "\x55\x04\x0C" "\x55\x04\x0F" "\x55\x04\x10" "\x55\x04\x11" "\x55\x04\x12" "\x55\x04\x13\x01"
     "\x55\x04\x14" "\x55\x04\x17" "\x55\x04\x22" "\x55\x04\x23" "\x55\x04\x24" "\x55\x04\x25" "\x55\x04\x27"
     "\x55\x04\x29" "\x55\x04\x2A" "\x55\x04\x2B" "\x55\x04\x2C" "\x55\x04\x2D" "\x55\x04\x2E" "\x55\x04\x31"
-    "\x55\x04\x33" "\x55\x04\x34" "\x55\x04\x37" "\x55\x04\x3A" "\x55\x04\x3B" "\x55\x04\x3D" "\x55\x04\x3E"
+    "\x55\x04\x33" "\x55\x04\x34" "\x55\x04\x37" "\x55\x04\x3A" "\x55\x04\x3B", "\x55\x04\x3D" "\x55\x04\x3E"
     "\x55\x04\x3F" "\x55\x04\x41" "\x55\x04\x46" "\x55\x04\x47" "\x55\x04\x48" "\x55\x04\x49" "\x55\x04\x4A"
     "\x55\x04\x4B" "\x55\x04\x4C" "\x55\x04\x61" "\x55\x04\x62" "\x55\x04\x63" "\x55\x04\x64" "\x55\x06\x18"
     "\x55\x06\x19" "\x55\x06\x1A" "\x55\x06\x1B" "\x55\x06\x20" "\x55\x06\x21" "\x55\x06\x22" "\x55\x08"
@@ -1530,7 +1534,7 @@ CONST_OID_TABLE const uint8_t const_oid_common_bytes[][512] = {
     "\x55\x1D\x15" "\x55\x1D\x17" "\x55\x1D\x18" "\x55\x1D\x1B" "\x55\x1D\x1C" "\x55\x1D\x1D" "\x55\x1D\x1E"
     "\x55\x1D\x1F" "\x55\x1D\x20" "\x55\x1D\x20\x00" "\x55\x1D\x21" "\x55\x1D\x23" "\x55\x1D\x24" "\x55\x1D\x25"
     "\x55\x1D\x25\x00" "\x55\x1D\x26" "\x55\x1D\x27" "\x55\x1D\x29" "\x55\x1D\x2A" "\x55\x1D\x2B" "\x55\x1D\x2E"
-    "\x55\x1D\x30" "\x55\x1D\x31" "\x55\x1D\x32" "\x55\x1D\x34" "\x55\x1D\x36", "\x55\x1D\x37" "\x55\x1D\x38"
+    "\x55\x1D\x30" "\x55\x1D\x31" "\x55\x1D\x32" "\x55\x1D\x34" "\x55\x1D\x36" "\x55\x1D\x37" "\x55\x1D\x38"
     "\x55\x1D\x39" "\x55\x1D\x3D" "\x55\x1D\x3E" "\x55\x1D\x3F" "\x55\x1D\x40" "\x55\x1D\x41" "\x55\x1D\x42"
     "\x55\x1D\x43" "\x55\x1D\x44" "\x55\x1D\x45" "\x55\x1D\x46" "\x55\x1D\x47" "\x55\x1D\x48" "\x55\x1D\x49"
     "\x55\x1D\x4A" "\x55\x1D\x4B" "\x56" "\x59" "\x60" "\x60\x86\x48\x01\x65\x02\x01\x02\x4D"
@@ -1542,15 +1546,15 @@ CONST_OID_TABLE const uint8_t const_oid_common_bytes[][512] = {
     "\x60\x86\x48\x01\x65\x03\x04\x01\x19" "\x60\x86\x48\x01\x65\x03\x04\x01\x1A" "\x60\x86\x48\x01\x65\x03\x04\x01\x1B"
     "\x60\x86\x48\x01\x65\x03\x04\x01\x1C" "\x60\x86\x48\x01\x65\x03\x04\x01\x29" "\x60\x86\x48\x01\x65\x03\x04\x01\x2A"
     "\x60\x86\x48\x01\x65\x03\x04\x01\x2B" "\x60\x86\x48\x01\x65\x03\x04\x01\x2C" "\x60\x86\x48\x01\x65\x03\x04\x01\x2D"
-    "\x60\x86\x48\x01\x65\x03\x04\x01\x2E" "\x60\x86\x48\x01\x65\x03\x04\x01\x2F" "\x60\x86\x48\x01\x65\x03\x04\x01\x30"
-    "\x60\x86\x48\x01\x65\x03\x04\x02\x01" "\x60\x86\x48\x01\x65\x03\x04\x02\x02" "\x60\x86\x48\x01\x65\x03\x04\x02\x03"
-    "\x60\x86\x48\x01\x65\x03\x04\x02\x04" "\x60\x86\x48\x01\x65\x03\x04\x02\x05" "\x60\x86\x48\x01\x65\x03\x04\x02\x06"
-    "\x60\x86\x48\x01\x65\x03\x04\x02\x07" "\x60\x86\x48\x01\x65\x03\x04\x02\x08" "\x60\x86\x48\x01\x65\x03\x04\x02\x09"
-    "\x60\x86\x48\x01\x65\x03\x04\x02\x0A" "\x60\x86\x48\x01\x65\x03\x04\x02\x0B" "\x60\x86\x48\x01\x65\x03\x04\x02\x0C"
-    "\x60\x86\x48\x01\x65\x03\x04\x02\x0D" "\x60\x86\x48\x01\x65\x03\x04\x02\x0E" "\x60\x86\x48\x01\x65\x03\x04\x02\x0F"
-    "\x60\x86\x48\x01\x65\x03\x04\x02\x10" "\x60\x86\x48\x01\x65\x03\x04\x02\x11" "\x60\x86\x48\x01\x65\x03\x04\x02\x12"
-    "\x60\x86\x48\x01\x65\x03\x04\x02\x13" "\x60\x86\x48\x01\x65\x03\x04\x02\x14" "\x60\x86\x48\x01\x65\x03\x04\x03\x01"
-    "\x60\x86\x48\x01\x65\x03\x04\x03\x02", "\x60\x86\x48\x01\x65\x03\x04\x03\x03"
+    "\x60\x86\x48\x01\x65\x03\x04\x01\x2E", "\x60\x86\x48\x01\x65\x03\x04\x01\x2F"
+    "\x60\x86\x48\x01\x65\x03\x04\x01\x30" "\x60\x86\x48\x01\x65\x03\x04\x02\x01" "\x60\x86\x48\x01\x65\x03\x04\x02\x02"
+    "\x60\x86\x48\x01\x65\x03\x04\x02\x03" "\x60\x86\x48\x01\x65\x03\x04\x02\x04" "\x60\x86\x48\x01\x65\x03\x04\x02\x05"
+    "\x60\x86\x48\x01\x65\x03\x04\x02\x06" "\x60\x86\x48\x01\x65\x03\x04\x02\x07" "\x60\x86\x48\x01\x65\x03\x04\x02\x08"
+    "\x60\x86\x48\x01\x65\x03\x04\x02\x09" "\x60\x86\x48\x01\x65\x03\x04\x02\x0A" "\x60\x86\x48\x01\x65\x03\x04\x02\x0B"
+    "\x60\x86\x48\x01\x65\x03\x04\x02\x0C" "\x60\x86\x48\x01\x65\x03\x04\x02\x0D" "\x60\x86\x48\x01\x65\x03\x04\x02\x0E"
+    "\x60\x86\x48\x01\x65\x03\x04\x02\x0F" "\x60\x86\x48\x01\x65\x03\x04\x02\x10" "\x60\x86\x48\x01\x65\x03\x04\x02\x11"
+    "\x60\x86\x48\x01\x65\x03\x04\x02\x12" "\x60\x86\x48\x01\x65\x03\x04\x02\x13" "\x60\x86\x48\x01\x65\x03\x04\x02\x14"
+    "\x60\x86\x48\x01\x65\x03\x04\x03\x01" "\x60\x86\x48\x01\x65\x03\x04\x03\x02" "\x60\x86\x48\x01\x65\x03\x04\x03\x03"
     "\x60\x86\x48\x01\x65\x03\x04\x03\x04" "\x60\x86\x48\x01\x65\x03\x04\x03\x05" "\x60\x86\x48\x01\x65\x03\x04\x03\x06"
     "\x60\x86\x48\x01\x65\x03\x04\x03\x07" "\x60\x86\x48\x01\x65\x03\x04\x03\x08" "\x60\x86\x48\x01\x65\x03\x04\x03\x09"
     "\x60\x86\x48\x01\x65\x03\x04\x03\x0A" "\x60\x86\x48\x01\x65\x03\x04\x03\x0B" "\x60\x86\x48\x01\x65\x03\x04\x03\x0C"
@@ -1561,91 +1565,91 @@ CONST_OID_TABLE const uint8_t const_oid_common_bytes[][512] = {
     "\x60\x86\x48\x01\x65\x03\x04\x03\x19" "\x60\x86\x48\x01\x65\x03\x04\x03\x1A" "\x60\x86\x48\x01\x65\x03\x04\x03\x1B"
     "\x60\x86\x48\x01\x65\x03\x04\x03\x1C" "\x60\x86\x48\x01\x65\x03\x04\x03\x1D" "\x60\x86\x48\x01\x65\x03\x04\x03\x1E"
     "\x60\x86\x48\x01\x65\x03\x04\x03\x1F" "\x60\x86\x48\x01\x65\x03\x04\x03\x20" "\x60\x86\x48\x01\x65\x03\x04\x03\x21"
-    "\x60\x86\x48\x01\x65\x03\x04\x03\x22" "\x60\x86\x48\x01\x65\x03\x04\x03\x23" "\x60\x86\x48\x01\x65\x03\x04\x03\x24"
-    "\x60\x86\x48\x01\x65\x03\x04\x03\x25" "\x60\x86\x48\x01\x65\x03\x04\x03\x26" "\x60\x86\x48\x01\x65\x03\x04\x03\x27"
-    "\x60\x86\x48\x01\x65\x03\x04\x03\x28" "\x60\x86\x48\x01\x65\x03\x04\x03\x29" "\x60\x86\x48\x01\x65\x03\x04\x03\x2A"
-    "\x60\x86\x48\x01\x65\x03\x04\x03\x2B" "\x60\x86\x48\x01\x65\x03\x04\x03\x2C" "\x60\x86\x48\x01\x65\x03\x04\x03\x2D"
-    "\x60\x86\x48\x01\x65\x03\x04\x03\x2E" "\x60\x86\x48\x01\x65\x03\x04\x04\x01" "\x60\x86\x48\x01\x65\x03\x04\x04\x02"
-    "\x60\x86\x48\x01\x65\x03\x04\x04\x03" "\x60\x86\x48\x01\x65\x03\x06\x07" "\x60\x86\x48\x01\x65\x03\x06\x08"
-    "\x60\x86\x48\x01\x65\x03\x08\x07" "\x60\x86\x48\x01\x86\xF8\x37\x01\x82\x2D\x04\x01\x01"
-    "\x60\x86\x48\x01\x86\xF8\x37\x01\x82\x2D\x04\x03\x01" "\x60\x86\x48\x01\x86\xF8\x37\x01\x82\x2D\x04\x05\x01"
-    "\x60\x86\x48\x01\x86\xF8\x37\x01\x82\x2D\x04\x06\x01", "\x60\x86\x48\x01\x86\xF8\x37\x01\x82\x2D\x04\x08\x01"
-    "\x60\x86\x48\x01\x86\xF8\x37\x01\x82\x2D\x04\x09\x01" "\x60\x86\x48\x01\x86\xF8\x37\x01\x82\x2D\x04\x0A\x01"
-    "\x60\x86\x48\x01\x86\xF8\x37\x01\x82\x2D\x04\x0E\x01" "\x60\x86\x48\x01\x86\xF8\x37\x01\x82\x2D\x04\x0F\x01"
-    "\x60\x86\x48\x01\x86\xF8\x37\x01\x82\x2D\x04\x11\x01" "\x60\x86\x48\x01\x86\xF8\x37\x01\x82\x2D\x04\x12\x01"
-    "\x60\x86\x48\x01\x86\xF8\x37\x01\x82\x2D\x04\x18\x01" "\x60\x86\x48\x01\x86\xF8\x37\x01\x82\x2D\x04\x19\x01"
-    "\x60\x86\x48\x01\x86\xF8\x37\x01\x82\x2D\x04\x1A\x01" "\x60\x86\x48\x01\x86\xF8\x37\x01\x82\x2D\x04\x1C\x01"
-    "\x60\x86\x48\x01\x86\xF8\x37\x01\x82\x2D\x04\x1D\x01" "\x60\x86\x48\x01\x86\xF8\x37\x01\x82\x2D\x04\x1E\x01"
-    "\x60\x86\x48\x01\x86\xF8\x37\x01\x82\x2D\x04\x1F\x01" "\x60\x86\x48\x01\x86\xF8\x37\x01\x82\x2D\x04\x20\x01"
-    "\x60\x86\x48\x01\x86\xF8\x37\x01\x82\x2D\x04\x21\x01" "\x60\x86\x48\x01\x86\xF8\x37\x01\x82\x2D\x04\x22\x01"
-    "\x60\x86\x48\x01\x86\xF8\x37\x01\x82\x2D\x04\x24\x01" "\x60\x86\x48\x01\x86\xF8\x37\x01\x82\x2D\x04\x25\x01"
-    "\x60\x86\x48\x01\x86\xF8\x37\x01\x82\x2D\x04\x27\x01" "\x60\x86\x48\x01\x86\xF8\x37\x01\x82\x2D\x04\x28\x01"
-    "\x60\x86\x48\x01\x86\xF8\x37\x01\x82\x2D\x04\x29\x01" "\x60\x86\x48\x01\x86\xF8\x37\x01\x82\x2D\x04\x2A\x01"
-    "\x60\x86\x48\x01\x86\xF8\x37\x01\x82\x2D\x04\x2B\x01" "\x60\x86\x48\x01\x86\xF8\x37\x01\x82\x2D\x04\x2C\x01"
-    "\x60\x86\x48\x01\x86\xF8\x37\x01\x82\x2D\x04\x2D\x01" "\x60\x86\x48\x01\x86\xF8\x37\x01\x82\x2D\x04\x2E\x01"
-    "\x60\x86\x48\x01\x86\xF8\x37\x01\x82\x2D\x04\x2F\x01" "\x60\x86\x48\x01\x86\xF8\x37\x01\x82\x2D\x04\x30\x01"
-    "\x60\x86\x48\x01\x86\xF8\x37\x01\x82\x2D\x04\x31\x01" "\x60\x86\x48\x01\x86\xF8\x37\x01\x82\x2D\x04\x32\x01"
-    "\x60\x86\x48\x01\x86\xF8\x37\x01\x82\x2D\x04\x33\x01" "\x60\x86\x48\x01\x86\xF8\x37\x01\x82\x2D\x04\x34\x01"
-    "\x60\x86\x48\x01\x86\xF8\x37\x01\x82\x2D\x04\x35\x01" "\x60\x86\x48\x01\x86\xF8\x37\x01\x82\x2D\x06\x01\x01"
-    "\x60\x86\x48\x01\x86\xF8\x37\x01\x82\x2D\x06\x02\x01" "\x60\x86\x48\x01\x86\xF8\x37\x01\x82\x2D\x06\x03\x01"
-    "\x60\x86\x48\x01\x86\xF8\x37\x01\x82\x2D\x06\x04\x01" "\x60\x86\x48\x01\x86\xF8\x37\x01\x82\x2D\x06\x05\x01",
-    "\x60\x86\x48\x01\x86\xF8\x37\x01\x82\x2D\x06\x08\x01" "\x60\x86\x48\x01\x86\xF8\x37\x01\x82\x2D\x06\x09\x01"
-    "\x60\x86\x48\x01\x86\xF8\x37\x01\x82\x2D\x06\x0B\x01" "\x60\x86\x48\x01\x86\xF8\x37\x01\x82\x2D\x06\x0D\x01"
-    "\x60\x86\x48\x01\x86\xF8\x37\x01\x82\x2D\x06\x0E\x01" "\x60\x86\x48\x01\x86\xF8\x37\x01\x82\x2D\x06\x10\x01"
-    "\x60\x86\x48\x01\x86\xF8\x37\x01\x82\x2D\x06\x11\x01" "\x60\x86\x48\x01\x86\xF8\x42"
-    "\x60\x86\x48\x01\x86\xF8\x42\x01" "\x60\x86\x48\x01\x86\xF8\x42\x01\x01" "\x60\x86\x48\x01\x86\xF8\x42\x01\x02"
-    "\x60\x86\x48\x01\x86\xF8\x42\x01\x03" "\x60\x86\x48\x01\x86\xF8\x42\x01\x04" "\x60\x86\x48\x01\x86\xF8\x42\x01\x07"
-    "\x60\x86\x48\x01\x86\xF8\x42\x01\x08" "\x60\x86\x48\x01\x86\xF8\x42\x01\x0C" "\x60\x86\x48\x01\x86\xF8\x42\x01\x0D"
-    "\x60\x86\x48\x01\x86\xF8\x42\x02" "\x60\x86\x48\x01\x86\xF8\x42\x02\x05" "\x60\x86\x48\x01\x86\xF8\x42\x03\x01\x05"
-    "\x60\x86\x48\x01\x86\xF8\x42\x03\x01\x06" "\x60\x86\x48\x01\x86\xF8\x42\x03\x01\x07"
-    "\x60\x86\x48\x01\x86\xF8\x42\x03\x01\x08" "\x60\x86\x48\x01\x86\xF8\x42\x03\x01\x09"
-    "\x60\x86\x48\x01\x86\xF8\x42\x03\x01\x0A" "\x60\x86\x48\x01\x86\xF8\x42\x03\x01\x0B"
-    "\x60\x86\x48\x01\x86\xF8\x42\x03\x01\x0D" "\x60\x86\x48\x01\x86\xF8\x42\x03\x01\x12"
-    "\x60\x86\x48\x01\x86\xF8\x42\x03\x01\x22" "\x60\x86\x48\x01\x86\xF8\x42\x03\x01\x23"
-    "\x60\x86\x48\x01\x86\xF8\x42\x03\x01\x2F" "\x60\x86\x48\x01\x86\xF8\x42\x03\x01\x4D"
-    "\x60\x86\x48\x01\x86\xF8\x42\x03\x01\x81\x46" "\x60\x86\x48\x01\x86\xF8\x42\x03\x01\x84\x1E"
-    "\x60\x86\x48\x01\x86\xF8\x42\x03\x02\x01" "\x60\x86\x48\x01\x86\xF8\x42\x03\x02\x21"
-    "\x60\x86\x48\x01\x86\xF8\x42\x03\x02\x81\x13" "\x60\x86\x48\x01\x86\xF8\x42\x03\x04\x02"
-    "\x60\x86\x48\x01\x86\xF8\x42\x03\x04\x03" "\x60\x86\x48\x01\x86\xF8\x42\x03\x04\x04"
-    "\x60\x86\x48\x01\x86\xF8\x42\x03\x04\x05" "\x60\x86\x48\x01\x86\xF8\x42\x03\x04\x07"
-    "\x60\x86\x48\x01\x86\xF8\x42\x03\x04\x09" "\x60\x86\x48\x01\x86\xF8\x42\x03\x04\x0A"
-    "\x60\x86\x48\x01\x86\xF8\x42\x03\x04\x0F" "\x60\x86\x48\x01\x86\xF8\x42\x03\x04\x10"
-    "\x60\x86\x48\x01\x86\xF8\x42\x03\x04\x12" "\x60\x86\x48\x01\x86\xF8\x42\x03\x08\x0F\x02\x01"
-    "\x60\x86\x48\x01\x86\xF8\x42\x04\x01" "\x60\x86\x48\x01\x86\xF9\x66",
-    "\x60\x86\x48\x01\x86\xF9\x66\xAD\xCA\x7B\x01\x01" "\x61" "\x67" "\x67\x2A" "\x67\x2A\x00" "\x67\x2A\x00\x00"
-    "\x67\x2A\x00\x01" "\x67\x2A\x00\x02" "\x67\x2A\x00\x03" "\x67\x2A\x00\x04" "\x67\x2A\x00\x05" "\x67\x2A\x00\x06"
-    "\x67\x2A\x00\x07" "\x67\x2A\x00\x08" "\x67\x2A\x00\x09" "\x67\x2A\x00\x0A" "\x67\x2A\x00\x0B" "\x67\x2A\x00\x0C"
-    "\x67\x2A\x00\x0D" "\x67\x2A\x00\x0E" "\x67\x2A\x00\x10" "\x67\x2A\x00\x11" "\x67\x2A\x00\x12" "\x67\x2A\x00\x13"
-    "\x67\x2A\x00\x14" "\x67\x2A\x00\x15" "\x67\x2A\x00\x16" "\x67\x2A\x00\x17" "\x67\x2A\x00\x18" "\x67\x2A\x00\x19"
-    "\x67\x2A\x00\x1A" "\x67\x2A\x00\x1B" "\x67\x2A\x00\x1C" "\x67\x2A\x00\x1D" "\x67\x2A\x00\x1E" "\x67\x2A\x00\x1F"
-    "\x67\x2A\x00\x20" "\x67\x2A\x00\x21" "\x67\x2A\x00\x22" "\x67\x2A\x00\x23" "\x67\x2A\x00\x24" "\x67\x2A\x00\x25"
-    "\x67\x2A\x00\x26" "\x67\x2A\x00\x27" "\x67\x2A\x00\x28" "\x67\x2A\x00\x29" "\x67\x2A\x00\x2A" "\x67\x2A\x00\x2B"
-    "\x67\x2A\x00\x2C" "\x67\x2A\x00\x2D" "\x67\x2A\x00\x2E" "\x67\x2A\x00\x2F" "\x67\x2A\x00\x30" "\x67\x2A\x00\x31"
-    "\x67\x2A\x00\x32" "\x67\x2A\x00\x33" "\x67\x2A\x00\x34" "\x67\x2A\x00\x35" "\x67\x2A\x00\x36" "\x67\x2A\x00\x37"
-    "\x67\x2A\x00\x38" "\x67\x2A\x00\x39" "\x67\x2A\x00\x3A" "\x67\x2A\x00\x3B" "\x67\x2A\x00\x3C" "\x67\x2A\x00\x3D"
-    "\x67\x2A\x00\x3E" "\x67\x2A\x00\x3F" "\x67\x2A\x00\x40" "\x67\x2A\x00\x41" "\x67\x2A\x00\x42" "\x67\x2A\x00\x43"
-    "\x67\x2A\x00\x44" "\x67\x2A\x00\x45" "\x67\x2A\x00\x46" "\x67\x2A\x00\x47" "\x67\x2A\x00\x48" "\x67\x2A\x00\x49"
-    "\x67\x2A\x00\x4A" "\x67\x2A\x00\x4B" "\x67\x2A\x00\x4C" "\x67\x2A\x00\x4D" "\x67\x2A\x00\x4E" "\x67\x2A\x00\x4F"
-    "\x67\x2A\x00\x50" "\x67\x2A\x00\x51" "\x67\x2A\x00\x52" "\x67\x2A\x01" "\x67\x2A\x01\x01" "\x67\x2A\x01\x03"
-    "\x67\x2A\x01\x04" "\x67\x2A\x01\x05" "\x67\x2A\x01\x07" "\x67\x2A\x01\x08" "\x67\x2A\x03" "\x67\x2A\x03\x00"
-    "\x67\x2A\x03\x00\x00" "\x67\x2A\x03\x00\x01" "\x67\x2A\x03\x01" "\x67\x2A\x03\x02" "\x67\x2A\x03\x02\x01"
-    "\x67\x2A\x03\x02\x02" "\x67\x2A\x03\x03" "\x67\x2A\x03\x03\x03" "\x67\x2A\x03\x03\x03\x01" "\x67\x2A\x03\x03\x04"
-    "\x67\x2A\x03\x03\x04\x01" "\x67\x2A\x03\x03\x04\x02" "\x67\x2A\x03\x03\x05" "\x67\x2A\x03\x03\x05\x01"
-    "\x67\x2A\x03\x03\x05\x02" "\x67\x2A\x05" "\x67\x2A\x05\x00" "\x67\x2A\x07" "\x67\x2A\x07\x00" "\x67\x2A\x07\x01"
-    "\x67\x2A\x07\x02" "\x67\x2A\x07\x03" "\x67\x2A\x07\x04" "\x67\x2A\x07\x05" "\x67\x2A\x07\x06" "\x67\x2A\x07\x07"
-    "\x67\x2A\x07\x08" "\x67\x2A\x07\x09", "\x67\x2A\x07\x0A" "\x67\x2A\x07\x0B" "\x67\x2A\x08" "\x67\x2A\x08\x01"
-    "\x67\x2A\x08\x04" "\x67\x2A\x08\x05" "\x67\x2A\x08\x1E" "\x67\x2A\x08\x22" "\x67\x2A\x08\x23"
-    "\x67\x2A\x08\xAE\x7B" "\x67\x2B" "\x67\x2B\x01" "\x67\x2B\x01\x04\x01" "\x67\x2B\x01\x04\x03"
-    "\x67\x2B\x01\x04\x04" "\x67\x2B\x01\x04\x05" "\x67\x2B\x01\x04\x06" "\x67\x2B\x01\x04\x07" "\x67\x2B\x01\x04\x08"
-    "\x67\x2B\x01\x04\x09" "\x67\x2B\x01\x04\x0A" "\x67\x2B\x01\x04\x0B" "\x67\x2B\x01\x04\x0C" "\x67\x81\x05"
-    "\x67\x81\x05\x02" "\x67\x81\x05\x02\x01" "\x67\x81\x05\x02\x02" "\x67\x81\x05\x02\x03" "\x67\x81\x05\x02\x04"
-    "\x67\x81\x05\x02\x05" "\x67\x81\x05\x02\x06" "\x67\x81\x05\x02\x0A" "\x67\x81\x05\x02\x0B" "\x67\x81\x05\x02\x0C"
-    "\x67\x81\x05\x02\x0D" "\x67\x81\x05\x02\x0E" "\x67\x81\x05\x02\x0F" "\x67\x81\x05\x02\x10" "\x67\x81\x05\x02\x11"
-    "\x67\x81\x05\x02\x12" "\x67\x81\x05\x02\x13" "\x67\x81\x05\x02\x17" "\x67\x81\x05\x02\x19" "\x67\x81\x05\x02\x1A"
-    "\x67\x81\x05\x02\x1B" "\x67\x81\x05\x02\x1C" "\x67\x81\x05\x03" "\x67\x81\x05\x03\x01" "\x67\x81\x05\x04"
-    "\x67\x81\x05\x04\x01" "\x67\x81\x05\x05" "\x67\x81\x05\x05\x01" "\x67\x81\x05\x05\x01\x01"
+    "\x60\x86\x48\x01\x65\x03\x04\x03\x22", "\x60\x86\x48\x01\x65\x03\x04\x03\x23"
+    "\x60\x86\x48\x01\x65\x03\x04\x03\x24" "\x60\x86\x48\x01\x65\x03\x04\x03\x25" "\x60\x86\x48\x01\x65\x03\x04\x03\x26"
+    "\x60\x86\x48\x01\x65\x03\x04\x03\x27" "\x60\x86\x48\x01\x65\x03\x04\x03\x28" "\x60\x86\x48\x01\x65\x03\x04\x03\x29"
+    "\x60\x86\x48\x01\x65\x03\x04\x03\x2A" "\x60\x86\x48\x01\x65\x03\x04\x03\x2B" "\x60\x86\x48\x01\x65\x03\x04\x03\x2C"
+    "\x60\x86\x48\x01\x65\x03\x04\x03\x2D" "\x60\x86\x48\x01\x65\x03\x04\x03\x2E" "\x60\x86\x48\x01\x65\x03\x04\x04\x01"
+    "\x60\x86\x48\x01\x65\x03\x04\x04\x02" "\x60\x86\x48\x01\x65\x03\x04\x04\x03" "\x60\x86\x48\x01\x65\x03\x06\x07"
+    "\x60\x86\x48\x01\x65\x03\x06\x08" "\x60\x86\x48\x01\x65\x03\x08\x07"
+    "\x60\x86\x48\x01\x86\xF8\x37\x01\x82\x2D\x04\x01\x01" "\x60\x86\x48\x01\x86\xF8\x37\x01\x82\x2D\x04\x03\x01"
+    "\x60\x86\x48\x01\x86\xF8\x37\x01\x82\x2D\x04\x05\x01" "\x60\x86\x48\x01\x86\xF8\x37\x01\x82\x2D\x04\x06\x01"
+    "\x60\x86\x48\x01\x86\xF8\x37\x01\x82\x2D\x04\x08\x01" "\x60\x86\x48\x01\x86\xF8\x37\x01\x82\x2D\x04\x09\x01"
+    "\x60\x86\x48\x01\x86\xF8\x37\x01\x82\x2D\x04\x0A\x01" "\x60\x86\x48\x01\x86\xF8\x37\x01\x82\x2D\x04\x0E\x01"
+    "\x60\x86\x48\x01\x86\xF8\x37\x01\x82\x2D\x04\x0F\x01" "\x60\x86\x48\x01\x86\xF8\x37\x01\x82\x2D\x04\x11\x01"
+    "\x60\x86\x48\x01\x86\xF8\x37\x01\x82\x2D\x04\x12\x01" "\x60\x86\x48\x01\x86\xF8\x37\x01\x82\x2D\x04\x18\x01"
+    "\x60\x86\x48\x01\x86\xF8\x37\x01\x82\x2D\x04\x19\x01" "\x60\x86\x48\x01\x86\xF8\x37\x01\x82\x2D\x04\x1A\x01"
+    "\x60\x86\x48\x01\x86\xF8\x37\x01\x82\x2D\x04\x1C\x01" "\x60\x86\x48\x01\x86\xF8\x37\x01\x82\x2D\x04\x1D\x01"
+    "\x60\x86\x48\x01\x86\xF8\x37\x01\x82\x2D\x04\x1E\x01" "\x60\x86\x48\x01\x86\xF8\x37\x01\x82\x2D\x04\x1F\x01"
+    "\x60\x86\x48\x01\x86\xF8\x37\x01\x82\x2D\x04\x20\x01" "\x60\x86\x48\x01\x86\xF8\x37\x01\x82\x2D\x04\x21\x01"
+    "\x60\x86\x48\x01\x86\xF8\x37\x01\x82\x2D\x04\x22\x01" "\x60\x86\x48\x01\x86\xF8\x37\x01\x82\x2D\x04\x24\x01"
+    "\x60\x86\x48\x01\x86\xF8\x37\x01\x82\x2D\x04\x25\x01" "\x60\x86\x48\x01\x86\xF8\x37\x01\x82\x2D\x04\x27\x01"
+    "\x60\x86\x48\x01\x86\xF8\x37\x01\x82\x2D\x04\x28\x01" "\x60\x86\x48\x01\x86\xF8\x37\x01\x82\x2D\x04\x29\x01",
+    "\x60\x86\x48\x01\x86\xF8\x37\x01\x82\x2D\x04\x2A\x01" "\x60\x86\x48\x01\x86\xF8\x37\x01\x82\x2D\x04\x2B\x01"
+    "\x60\x86\x48\x01\x86\xF8\x37\x01\x82\x2D\x04\x2C\x01" "\x60\x86\x48\x01\x86\xF8\x37\x01\x82\x2D\x04\x2D\x01"
+    "\x60\x86\x48\x01\x86\xF8\x37\x01\x82\x2D\x04\x2E\x01" "\x60\x86\x48\x01\x86\xF8\x37\x01\x82\x2D\x04\x2F\x01"
+    "\x60\x86\x48\x01\x86\xF8\x37\x01\x82\x2D\x04\x30\x01" "\x60\x86\x48\x01\x86\xF8\x37\x01\x82\x2D\x04\x31\x01"
+    "\x60\x86\x48\x01\x86\xF8\x37\x01\x82\x2D\x04\x32\x01" "\x60\x86\x48\x01\x86\xF8\x37\x01\x82\x2D\x04\x33\x01"
+    "\x60\x86\x48\x01\x86\xF8\x37\x01\x82\x2D\x04\x34\x01" "\x60\x86\x48\x01\x86\xF8\x37\x01\x82\x2D\x04\x35\x01"
+    "\x60\x86\x48\x01\x86\xF8\x37\x01\x82\x2D\x06\x01\x01" "\x60\x86\x48\x01\x86\xF8\x37\x01\x82\x2D\x06\x02\x01"
+    "\x60\x86\x48\x01\x86\xF8\x37\x01\x82\x2D\x06\x03\x01" "\x60\x86\x48\x01\x86\xF8\x37\x01\x82\x2D\x06\x04\x01"
+    "\x60\x86\x48\x01\x86\xF8\x37\x01\x82\x2D\x06\x05\x01" "\x60\x86\x48\x01\x86\xF8\x37\x01\x82\x2D\x06\x08\x01"
+    "\x60\x86\x48\x01\x86\xF8\x37\x01\x82\x2D\x06\x09\x01" "\x60\x86\x48\x01\x86\xF8\x37\x01\x82\x2D\x06\x0B\x01"
+    "\x60\x86\x48\x01\x86\xF8\x37\x01\x82\x2D\x06\x0D\x01" "\x60\x86\x48\x01\x86\xF8\x37\x01\x82\x2D\x06\x0E\x01"
+    "\x60\x86\x48\x01\x86\xF8\x37\x01\x82\x2D\x06\x10\x01" "\x60\x86\x48\x01\x86\xF8\x37\x01\x82\x2D\x06\x11\x01"
+    "\x60\x86\x48\x01\x86\xF8\x42" "\x60\x86\x48\x01\x86\xF8\x42\x01" "\x60\x86\x48\x01\x86\xF8\x42\x01\x01"
+    "\x60\x86\x48\x01\x86\xF8\x42\x01\x02" "\x60\x86\x48\x01\x86\xF8\x42\x01\x03" "\x60\x86\x48\x01\x86\xF8\x42\x01\x04"
+    "\x60\x86\x48\x01\x86\xF8\x42\x01\x07" "\x60\x86\x48\x01\x86\xF8\x42\x01\x08" "\x60\x86\x48\x01\x86\xF8\x42\x01\x0C"
+    "\x60\x86\x48\x01\x86\xF8\x42\x01\x0D" "\x60\x86\x48\x01\x86\xF8\x42\x02" "\x60\x86\x48\x01\x86\xF8\x42\x02\x05"
+    "\x60\x86\x48\x01\x86\xF8\x42\x03\x01\x05" "\x60\x86\x48\x01\x86\xF8\x42\x03\x01\x06"
+    "\x60\x86\x48\x01\x86\xF8\x42\x03\x01\x07" "\x60\x86\x48\x01\x86\xF8\x42\x03\x01\x08"
+    "\x60\x86\x48\x01\x86\xF8\x42\x03\x01\x09" "\x60\x86\x48\x01\x86\xF8\x42\x03\x01\x0A"
+    "\x60\x86\x48\x01\x86\xF8\x42\x03\x01\x0B" "\x60\x86\x48\x01\x86\xF8\x42\x03\x01\x0D"
+    "\x60\x86\x48\x01\x86\xF8\x42\x03\x01\x12", "\x60\x86\x48\x01\x86\xF8\x42\x03\x01\x22"
+    "\x60\x86\x48\x01\x86\xF8\x42\x03\x01\x23" "\x60\x86\x48\x01\x86\xF8\x42\x03\x01\x2F"
+    "\x60\x86\x48\x01\x86\xF8\x42\x03\x01\x4D" "\x60\x86\x48\x01\x86\xF8\x42\x03\x01\x81\x46"
+    "\x60\x86\x48\x01\x86\xF8\x42\x03\x01\x84\x1E" "\x60\x86\x48\x01\x86\xF8\x42\x03\x02\x01"
+    "\x60\x86\x48\x01\x86\xF8\x42\x03\x02\x21" "\x60\x86\x48\x01\x86\xF8\x42\x03\x02\x81\x13"
+    "\x60\x86\x48\x01\x86\xF8\x42\x03\x04\x02" "\x60\x86\x48\x01\x86\xF8\x42\x03\x04\x03"
+    "\x60\x86\x48\x01\x86\xF8\x42\x03\x04\x04" "\x60\x86\x48\x01\x86\xF8\x42\x03\x04\x05"
+    "\x60\x86\x48\x01\x86\xF8\x42\x03\x04\x07" "\x60\x86\x48\x01\x86\xF8\x42\x03\x04\x09"
+    "\x60\x86\x48\x01\x86\xF8\x42\x03\x04\x0A" "\x60\x86\x48\x01\x86\xF8\x42\x03\x04\x0F"
+    "\x60\x86\x48\x01\x86\xF8\x42\x03\x04\x10" "\x60\x86\x48\x01\x86\xF8\x42\x03\x04\x12"
+    "\x60\x86\x48\x01\x86\xF8\x42\x03\x08\x0F\x02\x01" "\x60\x86\x48\x01\x86\xF8\x42\x04\x01"
+    "\x60\x86\x48\x01\x86\xF9\x66" "\x60\x86\x48\x01\x86\xF9\x66\xAD\xCA\x7B\x01\x01" "\x61" "\x67" "\x67\x2A"
+    "\x67\x2A\x00" "\x67\x2A\x00\x00" "\x67\x2A\x00\x01" "\x67\x2A\x00\x02" "\x67\x2A\x00\x03" "\x67\x2A\x00\x04"
+    "\x67\x2A\x00\x05" "\x67\x2A\x00\x06" "\x67\x2A\x00\x07" "\x67\x2A\x00\x08" "\x67\x2A\x00\x09" "\x67\x2A\x00\x0A"
+    "\x67\x2A\x00\x0B" "\x67\x2A\x00\x0C" "\x67\x2A\x00\x0D" "\x67\x2A\x00\x0E" "\x67\x2A\x00\x10" "\x67\x2A\x00\x11"
+    "\x67\x2A\x00\x12" "\x67\x2A\x00\x13" "\x67\x2A\x00\x14" "\x67\x2A\x00\x15" "\x67\x2A\x00\x16" "\x67\x2A\x00\x17"
+    "\x67\x2A\x00\x18" "\x67\x2A\x00\x19" "\x67\x2A\x00\x1A" "\x67\x2A\x00\x1B" "\x67\x2A\x00\x1C" "\x67\x2A\x00\x1D"
+    "\x67\x2A\x00\x1E" "\x67\x2A\x00\x1F" "\x67\x2A\x00\x20" "\x67\x2A\x00\x21" "\x67\x2A\x00\x22" "\x67\x2A\x00\x23"
+    "\x67\x2A\x00\x24" "\x67\x2A\x00\x25" "\x67\x2A\x00\x26" "\x67\x2A\x00\x27" "\x67\x2A\x00\x28" "\x67\x2A\x00\x29"
+    "\x67\x2A\x00\x2A" "\x67\x2A\x00\x2B" "\x67\x2A\x00\x2C" "\x67\x2A\x00\x2D" "\x67\x2A\x00\x2E" "\x67\x2A\x00\x2F"
+    "\x67\x2A\x00\x30" "\x67\x2A\x00\x31" "\x67\x2A\x00\x32" "\x67\x2A\x00\x33" "\x67\x2A\x00\x34" "\x67\x2A\x00\x35"
+    "\x67\x2A\x00\x36" "\x67\x2A\x00\x37" "\x67\x2A\x00\x38" "\x67\x2A\x00\x39" "\x67\x2A\x00\x3A" "\x67\x2A\x00\x3B"
+    "\x67\x2A\x00\x3C" "\x67\x2A\x00\x3D" "\x67\x2A\x00\x3E" "\x67\x2A\x00\x3F" "\x67\x2A\x00\x40" "\x67\x2A\x00\x41"
+    "\x67\x2A\x00\x42" "\x67\x2A\x00\x43", "\x67\x2A\x00\x44" "\x67\x2A\x00\x45" "\x67\x2A\x00\x46" "\x67\x2A\x00\x47"
+    "\x67\x2A\x00\x48" "\x67\x2A\x00\x49" "\x67\x2A\x00\x4A" "\x67\x2A\x00\x4B" "\x67\x2A\x00\x4C" "\x67\x2A\x00\x4D"
+    "\x67\x2A\x00\x4E" "\x67\x2A\x00\x4F" "\x67\x2A\x00\x50" "\x67\x2A\x00\x51" "\x67\x2A\x00\x52" "\x67\x2A\x01"
+    "\x67\x2A\x01\x01" "\x67\x2A\x01\x03" "\x67\x2A\x01\x04" "\x67\x2A\x01\x05" "\x67\x2A\x01\x07" "\x67\x2A\x01\x08"
+    "\x67\x2A\x03" "\x67\x2A\x03\x00" "\x67\x2A\x03\x00\x00" "\x67\x2A\x03\x00\x01" "\x67\x2A\x03\x01"
+    "\x67\x2A\x03\x02" "\x67\x2A\x03\x02\x01" "\x67\x2A\x03\x02\x02" "\x67\x2A\x03\x03" "\x67\x2A\x03\x03\x03"
+    "\x67\x2A\x03\x03\x03\x01" "\x67\x2A\x03\x03\x04" "\x67\x2A\x03\x03\x04\x01" "\x67\x2A\x03\x03\x04\x02"
+    "\x67\x2A\x03\x03\x05" "\x67\x2A\x03\x03\x05\x01" "\x67\x2A\x03\x03\x05\x02" "\x67\x2A\x05" "\x67\x2A\x05\x00"
+    "\x67\x2A\x07" "\x67\x2A\x07\x00" "\x67\x2A\x07\x01" "\x67\x2A\x07\x02" "\x67\x2A\x07\x03" "\x67\x2A\x07\x04"
+    "\x67\x2A\x07\x05" "\x67\x2A\x07\x06" "\x67\x2A\x07\x07" "\x67\x2A\x07\x08" "\x67\x2A\x07\x09" "\x67\x2A\x07\x0A"
+    "\x67\x2A\x07\x0B" "\x67\x2A\x08" "\x67\x2A\x08\x01" "\x67\x2A\x08\x04" "\x67\x2A\x08\x05" "\x67\x2A\x08\x1E"
+    "\x67\x2A\x08\x22" "\x67\x2A\x08\x23" "\x67\x2A\x08\xAE\x7B" "\x67\x2B" "\x67\x2B\x01" "\x67\x2B\x01\x04\x01"
+    "\x67\x2B\x01\x04\x03" "\x67\x2B\x01\x04\x04" "\x67\x2B\x01\x04\x05" "\x67\x2B\x01\x04\x06" "\x67\x2B\x01\x04\x07"
+    "\x67\x2B\x01\x04\x08" "\x67\x2B\x01\x04\x09" "\x67\x2B\x01\x04\x0A" "\x67\x2B\x01\x04\x0B" "\x67\x2B\x01\x04\x0C"
+    "\x67\x81\x05" "\x67\x81\x05\x02" "\x67\x81\x05\x02\x01" "\x67\x81\x05\x02\x02" "\x67\x81\x05\x02\x03"
+    "\x67\x81\x05\x02\x04" "\x67\x81\x05\x02\x05" "\x67\x81\x05\x02\x06" "\x67\x81\x05\x02\x0A" "\x67\x81\x05\x02\x0B"
+    "\x67\x81\x05\x02\x0C" "\x67\x81\x05\x02\x0D" "\x67\x81\x05\x02\x0E" "\x67\x81\x05\x02\x0F" "\x67\x81\x05\x02\x10"
+    "\x67\x81\x05\x02\x11" "\x67\x81\x05\x02\x12" "\x67\x81\x05\x02\x13" "\x67\x81\x05\x02\x17" "\x67\x81\x05\x02\x19"
+    "\x67\x81\x05\x02\x1A" "\x67\x81\x05\x02\x1B" "\x67\x81\x05\x02\x1C" "\x67\x81\x05\x03" "\x67\x81\x05\x03\x01"
+    "\x67\x81\x05\x04" "\x67\x81\x05\x04\x01" "\x67\x81\x05\x05" "\x67\x81\x05\x05\x01" "\x67\x81\x05\x05\x01\x01"
     "\x67\x81\x05\x05\x01\x02" "\x67\x81\x05\x05\x01\x03" "\x67\x81\x05\x05\x01\x04" "\x67\x81\x05\x05\x01\x05"
-    "\x67\x81\x05\x05\x01\x06" "\x67\x81\x05\x05\x01\x07" "\x67\x81\x05\x05\x01\x07\x01" "\x67\x81\x05\x05\x01\x07\x02"
+    "\x67\x81\x05\x05\x01\x06" "\x67\x81\x05\x05\x01\x07" "\x67\x81\x05\x05\x01\x07\x01", "\x67\x81\x05\x05\x01\x07\x02"
     "\x67\x81\x05\x05\x01\x07\x03" "\x67\x81\x05\x05\x01\x07\x04" "\x67\x81\x05\x05\x01\x08" "\x67\x81\x05\x06"
     "\x67\x81\x05\x06\x02" "\x67\x81\x05\x06\x03" "\x67\x81\x05\x06\x04" "\x67\x81\x05\x06\x05" "\x67\x81\x05\x06\x06"
     "\x67\x81\x05\x06\x07" "\x67\x81\x05\x08" "\x67\x81\x05\x08\x01" "\x67\x81\x05\x08\x02" "\x67\x81\x05\x08\x03"
@@ -1654,7 +1658,7 @@ CONST_OID_TABLE const uint8_t const_oid_common_bytes[][512] = {
     "\x67\x81\x05\x11\x03" "\x67\x81\x05\x12" "\x67\x81\x05\x12\x03" "\x67\x81\x05\x12\x03\x01"
     "\x67\x81\x05\x12\x03\x02" "\x67\x81\x05\x12\x03\x03" "\x67\x81\x05\x12\x03\x04" "\x67\x81\x05\x12\x03\x05"
     "\x67\x81\x05\x13" "\x67\x81\x05\x13\x01" "\x67\x81\x05\x13\x01\x01" "\x67\x81\x05\x13\x01\x02"
-    "\x67\x81\x05\x13\x01\x03" "\x67\x81\x05\x13\x01\x04" "\x67\x81\x05\x13\x01\x05" "\x67\x81\x05\x13\x01\x06",
+    "\x67\x81\x05\x13\x01\x03" "\x67\x81\x05\x13\x01\x04" "\x67\x81\x05\x13\x01\x05" "\x67\x81\x05\x13\x01\x06"
     "\x67\x81\x05\x13\x01\x07" "\x67\x81\x05\x13\x01\x08" "\x67\x81\x05\x13\x01\x09" "\x67\x81\x05\x13\x01\x0A"
     "\x67\x81\x05\x13\x01\x0B" "\x67\x81\x05\x13\x01\x0C" "\x67\x81\x05\x13\x01\x0D" "\x67\x81\x05\x13\x01\x0E"
     "\x67\x81\x05\x13\x01\x0F" "\x67\x81\x05\x13\x01\x10" "\x67\x81\x05\x13\x01\x11" "\x67\x81\x05\x13\x01\x12"
@@ -1666,1299 +1670,1303 @@ CONST_OID_TABLE const uint8_t const_oid_common_bytes[][512] = {
     "\x67\x81\x05\x13\x02\x11" "\x67\x81\x05\x13\x02\x12" "\x67\x81\x05\x13\x02\x13" "\x67\x81\x05\x13\x02\x14"
     "\x67\x81\x05\x13\x02\x15" "\x67\x81\x05\x13\x02\x16" "\x67\x81\x05\x13\x02\x17" "\x67\x81\x05\x13\x02\x18"
     "\x67\x81\x05\x13\x02\x19" "\x67\x81\x05\x13\x02\x1A" "\x67\x81\x05\x13\x02\x1B" "\x67\x81\x05\x13\x02\x1C"
-    "\x67\x81\x05\x13\x02\x1D" "\x67\x81\x05\x13\x02\x1E" "\x67\x81\x05\x13\x02\x1F" "\x67\x81\x05\x13\x02\x20"
+    "\x67\x81\x05\x13\x02\x1D" "\x67\x81\x05\x13\x02\x1E" "\x67\x81\x05\x13\x02\x1F" "\x67\x81\x05\x13\x02\x20",
     "\x67\x81\x05\x13\x02\x21" "\x67\x81\x05\x13\x02\x22" "\x67\x81\x05\x13\x02\x23" "\x67\x81\x05\x13\x02\x24"
     "\x67\x81\x05\x13\x02\x25" "\x67\x81\x05\x13\x03" "\x67\x81\x0C" "\x67\x81\x0C\x01" "\x67\x81\x0C\x01\x01"
     "\x67\x81\x0C\x01\x02" "\x67\x81\x0C\x01\x02\x01" "\x67\x81\x0C\x01\x02\x02" "\x67\x81\x0C\x01\x02\x03"
     "\x67\x81\x0C\x01\x03" "\x67\x81\x0C\x01\x04" "\x67\x81\x0C\x01\x04\x01" "\x67\x81\x0C\x01\x05"
     "\x67\x81\x0C\x01\x05\x01" "\x67\x81\x0C\x01\x05\x02" "\x67\x81\x0C\x01\x05\x03" "\x67\x81\x0C\x01\x05\x04"
     "\x67\x81\x0C\x01\x1F" "\x67\x81\x0C\x02\x01" "\x67\x81\x0C\x03" "\x67\x81\x0C\x03\x01" "\x67\x81\x0C\x29"
-    "\x67\x81\x0C\x2A" "\x69" "\x6B" "\x78" "\x79" "\x81\x00" "\x81\x01" "\x81\x03" ""
+    "\x67\x81\x0C\x2A" "\x69" "\x6B" "\x78" "\x79" "\x7A" "\x81\x00" "\x81\x01" "\x81\x03" ""
 };
 
 CONST_OID_TABLE const char const_oid_common_texts[][512] = {
-    "zeroDotZero\0" "ccitt.0\0" "ccitt.1\0" "ccitt.2\0" "name_distinguisher\0" "ccitt.3\0" "CAMELLIA-128-ECB\0"
-    "camellia-128-ecb\0" "CAMELLIA-128-OFB\0" "camellia-128-ofb\0" "CAMELLIA-128-CFB\0" "camellia-128-cfb\0"
-    "CAMELLIA-128-GCM\0" "camellia-128-gcm\0" "CAMELLIA-128-CCM\0" "camellia-128-ccm\0" "CAMELLIA-128-CTR\0"
-    "camellia-128-ctr\0" "CAMELLIA-128-CMAC\0" "camellia-128-cmac\0" "CAMELLIA-192-ECB\0" "camellia-192-ecb\0"
-    "CAMELLIA-192-OFB\0" "camellia-192-ofb\0" "CAMELLIA-192-CFB\0" "camellia-192-cfb\0" "CAMELLIA-192-GCM\0"
-    "camellia-192-gcm\0" "CAMELLIA-192-CCM\0" "camellia-192-ccm\0" "CAMELLIA-192-CTR\0" "camellia-192-ctr\0",
-    "CAMELLIA-192-CMAC\0" "camellia-192-cmac\0" "CAMELLIA-256-ECB\0" "camellia-256-ecb\0" "CAMELLIA-256-OFB\0"
-    "camellia-256-ofb\0" "CAMELLIA-256-CFB\0" "camellia-256-cfb\0" "CAMELLIA-256-GCM\0" "camellia-256-gcm\0"
-    "CAMELLIA-256-CCM\0" "camellia-256-ccm\0" "CAMELLIA-256-CTR\0" "camellia-256-ctr\0" "CAMELLIA-256-CMAC\0"
-    "camellia-256-cmac\0" "itu-t-identified-organization\0" "ccitt.4\0" "etsi\0" "electronic-signature-standard\0"
-    "ess-attributes\0" "id-aa-ets-mimeType\0" "id-aa-ets-longTermValidation\0" "id-aa-ets-SignaturePolicyDocument\0"
-    "id-aa-ets-archiveTimestampV3\0" "id-aa-ATSHashIndex\0" "etsiQcsProfile\0", "etsiQcs\0" "id-etsi-qcs-QcCompliance\0"
-    "QcCompliance\0" "etsiQcsCompliance\0" "id-etsi-qcs-QcLimitValue\0" "QcLimitValue\0" "etsiQcsLimitValue\0"
-    "id-etsi-qcs-QcRetentionPeriod\0" "QcRetentionPeriod\0" "etsiQcsRetentionPeriod\0" "id-etsi-qcs-QcSSCD\0" "QcSSCD\0"
-    "etsiQcsQcSSCD\0" "id-etsi-qcs-QcPDS\0" "QcPDS\0" "id-etsi-qcs-QcType\0" "QcType\0" "id-etsi-qct-esign\0"
-    "id-etsi-qct-eseal\0" "id-etsi-qct-web\0" "id-etsi-qcs-QcCClegislation\0" "QcCClegislation\0" "ncpplus\0" "evcp\0"
-    "dvcp\0" "ovcp\0" "cades\0" "cades-attributes\0" "id-aa-ets-signerAttrV2\0" "id-aa-ets-sigPolicyStore\0"
-    "id-aa-ATSHashIndex-v2\0", "id-aa-ATSHashIndex-v3\0" "signedAssertion\0" "id-psd2-role-psp-as\0"
-    "id-psd2-role-psp-pi\0" "id-psd2-role-psp-ai\0" "id-psd2-role-psp-ic\0" "id-etsi-psd2-qcStatement\0"
-    "qcp-web-psd2\0" "qcp-natural\0" "QCP-n\0" "qcp-legal\0" "QCP-l\0" "qcp-natural-qscd\0" "QCP-n-qscd\0"
-    "qcp-legal-qscd\0" "QCP-l-qscd\0" "qcp-web\0" "QEVCP-w\0" "QNCP-w\0" "id-etsi-qcs-semanticsId-Natural\0"
-    "id-etsi-qcs-SemanticsId-Legal\0" "id-etsi-qcs-semanticsId-eIDASNatural\0" "id-etsi-qcs-semanticsId-eIDASLegal\0"
-    "id-etsi-ext-valassured-ST-certs\0" "ccitt.5\0" "data\0" "ccitt.9\0" "pss\0" "ucl\0" "pilot\0"
-    "pilotAttributeType\0" "User ID\0" "user_id\0", "homeTelephoneNumber\0" "id-domainComponent\0" "Domain Component\0"
-    "domain_component\0" "pilotAttributeType27\0" "uid\0" "pilotAttributeSyntax\0" "iA5StringSyntax\0"
-    "caseIgnoreIA5StringSyntax\0" "pilotObjectClass\0" "newPilotPerson\0" "documentSeries\0" "pilotGroups\0" "iso.0\0"
-    "lldpMIB\0" "lldpNotifications\0" "lldpNotificationPrefix\0" "lldpRemTablesChange\0" "lldpObjects\0"
-    "lldpConfiguration\0" "lldpMessageTxInterval\0" "lldpMessageTxHoldMultiplier\0" "lldpReinitDelay\0" "lldpTxDelay\0"
-    "lldpNotificationInterval\0" "lldpPortConfigTable\0" "lldpPortConfigEntry\0" "lldpPortConfigPortNum\0",
-    "lldpPortConfigAdminStatus\0" "lldpPortConfigNotificationEnable\0" "lldpPortConfigTLVsTxEnable\0" "lldpStatistics\0"
+    "P-192\0" "P-224\0" "P-256\0" "P-384\0" "P-521\0" "K-163\0" "K-233\0" "K-283\0" "K-409\0" "K-571\0" "B-163\0"
+    "B-233\0" "B-283\0" "B-409\0" "B-571\0" "SHA-1\0" "SHA-224\0" "SHA-256\0" "SHA-384\0" "SHA-512\0" "SHA-512/224\0"
+    "SHA-512/256\0" "ML-KEM-512\0" "ML-KEM-768\0" "ML-KEM-1024\0" "ML-DSA-44\0" "ML-DSA-65\0" "ML-DSA-87\0"
+    "SLH-DSA-SHA2-128s\0" "SLH-DSA-SHA2-128f\0" "SLH-DSA-SHA2-192s\0" "SLH-DSA-SHA2-192f\0" "SLH-DSA-SHA2-256s\0"
+    "SLH-DSA-SHA2-256f\0" "SLH-DSA-SHAKE-128s\0" "SLH-DSA-SHAKE-128f\0" "SLH-DSA-SHAKE-192s\0" "SLH-DSA-SHAKE-192f\0"
+    "SLH-DSA-SHAKE-256s\0" "SLH-DSA-SHAKE-256f\0" "Ed25519\0" "Ed448\0" "ca-browser-forum\0" "certificate-policies\0",
+    "extended-validation\0" "ev-guidelines\0" "baseline-requirements\0" "domain-validated\0" "organization-validated\0"
+    "individual-validated\0" "extended-validation-codesigning\0" "code-signing-requirements\0" "code-signing\0"
+    "smime-baseline\0" "mailbox-validated\0" "sponsor-validated\0" "SPC_INDIRECT_DATA_OBJID\0"
+    "SPC_STATEMENT_TYPE_OBJID\0" "SPC_SP_OPUS_INFO_OBJID\0" "SPC_PE_IMAGE_DATA_OBJID\0"
+    "SPC_INDIVIDUAL_SP_KEY_PURPOSE_OBJID\0" "SPC_COMMERCIAL_SP_KEY_PURPOSE_OBJID\0" "szOID_RFC3161_counterSign\0"
+    "szOID_CTL\0" "szOID_KP_CTL_USAGE_SIGNING\0" "szOID_KP_TIME_STAMP_SIGNING\0", "szOID_SERVER_GATED_CRYPTO\0"
+    "szOID_KP_EFS\0" "szOID_EFS_RECOVERY\0" "szOID_WHQL_CRYPTO\0" "szOID_NT5_CRYPTO\0" "szOID_OEM_WHQL_CRYPTO\0"
+    "szOID_EMBEDDED_NT_CRYPTO\0" "szOID_ROOT_LIST_SIGNER\0" "szOID_KP_QUALIFIED_SUBORDINATION\0"
+    "szOID_KP_KEY_RECOVERY\0" "szOID_KP_DOCUMENT_SIGNING\0" "szOID_KP_LIFETIME_SIGNING\0"
+    "szOID_ANY_APPLICATION_POLICY\0" "szOID_RENEWAL_CERTIFICATE\0" "szOID_ENROLLMENT_NAME_VALUE_PAIR\0"
+    "szOID_ENROLLMENT_CSP_PROVIDER\0" "szOID_OS_VERSION\0" "szOID_AUTO_ENROLL_CTL_USAGE\0"
+    "szOID_ENROLL_CERTTYPE_EXTENSION\0" "szOID_ENROLLMENT_AGENT\0", "szOID_KP_SMARTCARD_LOGON\0"
+    "szOID_NT_PRINCIPAL_NAME\0" "szOID_CERT_MANIFOLD\0" "szOID_CERTSRV_CA_VERSION\0"
+    "szOID_CERTSRV_PREVIOUS_CERT_HASH\0" "szOID_CRL_VIRTUAL_BASE\0" "szOID_CRL_NEXT_PUBLISH\0" "szOID_KP_CA_EXCHANGE\0"
+    "szOID_KP_KEY_RECOVERY_AGENT\0" "szOID_CERTIFICATE_TEMPLATE\0" "szOID_APPLICATION_CERT_POLICIES\0"
+    "szOID_APPLICATION_POLICY_MAPPINGS\0" "szOID_APPLICATION_POLICY_CONSTRAINTS\0" "szOID_ARCHIVED_KEY_ATTR\0"
+    "szOID_CRL_SELF_CDP\0" "szOID_REQUIRE_CERT_CHAIN_POLICY\0" "szOID_ARCHIVED_KEY_CERT_HASH\0"
+    "szOID_ISSUED_CERT_HASH\0" "szOID_DS_EMAIL_REPLICATION\0", "szOID_REQUEST_CLIENT_INFO\0"
+    "szOID_ENCRYPTED_KEY_HASH\0" "szOID_CERTSRV_CROSSCA_VERSION\0" "szOID_NTDS_REPLICATION\0"
+    "szOID_NTDS_CA_SECURITY_EXT\0" "szOID_NTDS_OBJECTSID\0" "zeroDotZero\0" "org\0" "dod\0" "internet\0" "directory\0"
+    "mgmt\0" "mib-2\0" "transmission\0" "experimental\0" "private\0" "enterprises\0" "security\0" "snmpV2\0"
+    "snmpDomains\0" "snmpProxys\0" "snmpModules\0" "system\0" "sysDescr\0" "sysObjectID\0" "sysUpTime\0" "sysContact\0"
+    "sysName\0" "sysLocation\0" "sysServices\0" "sysORLastChange\0" "sysORTable\0" "sysOREntry\0" "sysORIndex\0"
+    "sysORID\0" "sysORDescr\0" "sysORUpTime\0" "snmp\0" "snmpInPkts\0" "snmpOutPkts\0" "snmpInBadVersions\0",
+    "snmpInBadCommunityNames\0" "snmpInBadCommunityUses\0" "snmpInASNParseErrs\0" "snmpInTooBigs\0"
+    "snmpInNoSuchNames\0" "snmpInBadValues\0" "snmpInReadOnlys\0" "snmpInGenErrs\0" "snmpInTotalReqVars\0"
+    "snmpInTotalSetVars\0" "snmpInGetRequests\0" "snmpInGetNexts\0" "snmpInSetRequests\0" "snmpInGetResponses\0"
+    "snmpInTraps\0" "snmpOutTooBigs\0" "snmpOutNoSuchNames\0" "snmpOutBadValues\0" "snmpOutGenErrs\0"
+    "snmpOutGetRequests\0" "snmpOutGetNexts\0" "snmpOutSetRequests\0" "snmpOutGetResponses\0" "snmpOutTraps\0"
+    "snmpEnableAuthenTraps\0" "snmpSilentDrops\0" "snmpProxyDrops\0" "snmpMIB\0" "snmpMIBObjects\0" "snmpTrap\0",
+    "snmpTrapOID\0" "snmpTrapEnterprise\0" "snmpTraps\0" "coldStart\0" "warmStart\0" "authenticationFailure\0"
+    "snmpSet\0" "snmpSetSerialNo\0" "snmpMIBConformance\0" "snmpMIBCompliances\0" "snmpBasicCompliance\0"
+    "snmpBasicComplianceRev2\0" "snmpMIBGroups\0" "snmpSetGroup\0" "systemGroup\0" "snmpBasicNotificationsGroup\0"
+    "snmpGroup\0" "snmpCommunityGroup\0" "snmpObsoleteGroup\0" "snmpWarmStartNotificationGroup\0"
+    "snmpNotificationGroup\0" "interfaces\0" "ifNumber\0" "ifTable\0" "ifEntry\0" "ifIndex\0" "ifDescr\0" "ifType\0"
+    "ifMtu\0" "ifSpeed\0" "ifPhysAddress\0" "ifAdminStatus\0" "ifOperStatus\0" "ifLastChange\0" "ifInOctets\0"
+    "ifInUcastPkts\0", "ifInNUcastPkts\0" "ifInDiscards\0" "ifInErrors\0" "ifInUnknownProtos\0" "ifOutOctets\0"
+    "ifOutUcastPkts\0" "ifOutNUcastPkts\0" "ifOutDiscards\0" "ifOutErrors\0" "ifOutQLen\0" "ifSpecific\0" "ifMIB\0"
+    "ifMIBObjects\0" "ifXTable\0" "ifXEntry\0" "ifName\0" "ifInMulticastPkts\0" "ifInBroadcastPkts\0"
+    "ifOutMulticastPkts\0" "ifOutBroadcastPkts\0" "ifHCInOctets\0" "ifHCInUcastPkts\0" "ifHCInMulticastPkts\0"
+    "ifHCInBroadcastPkts\0" "ifHCOutOctets\0" "ifHCOutUcastPkts\0" "ifHCOutMulticastPkts\0" "ifHCOutBroadcastPkts\0"
+    "ifLinkUpDownTrapEnable\0" "ifHighSpeed\0" "ifPromiscuousMode\0" "ifConnectorPresent\0" "ifAlias\0",
+    "ifCounterDiscontinuityTime\0" "ifStackTable\0" "ifStackEntry\0" "ifStackHigherLayer\0" "ifStackLowerLayer\0"
+    "ifStackStatus\0" "ifTestTable\0" "ifTestEntry\0" "ifTestId\0" "ifTestStatus\0" "ifTestType\0" "ifTestResult\0"
+    "ifTestCode\0" "ifTestOwner\0" "ifRcvAddressTable\0" "ifRcvAddressEntry\0" "ifRcvAddressAddress\0"
+    "ifRcvAddressStatus\0" "ifRcvAddressType\0" "ifTableLastChange\0" "ifStackLastChange\0" "ifConformance\0"
+    "ifGroups\0" "ifGeneralGroup\0" "ifFixedLengthGroup\0" "ifHCFixedLengthGroup\0" "ifPacketGroup\0"
+    "ifHCPacketGroup\0" "ifVHCPacketGroup\0" "ifRcvAddressGroup\0" "ifTestGroup\0" "ifStackGroup\0",
+    "ifGeneralInformationGroup\0" "ifStackGroup2\0" "ifOldObjectsGroup\0" "ifCounterDiscontinuityGroup\0"
+    "linkUpDownNotificationsGroup\0" "ifCompliances\0" "ifCompliance\0" "ifCompliance2\0" "ifCompliance3\0" "linkDown\0"
+    "linkUp\0" "ip\0" "ipForwarding\0" "ipDefaultTTL\0" "ipInReceives\0" "ipInHdrErrors\0" "ipInAddrErrors\0"
+    "ipForwDatagrams\0" "ipInUnknownProtos\0" "ipInDiscards\0" "ipInDelivers\0" "ipOutRequests\0" "ipOutDiscards\0"
+    "ipOutNoRoutes\0" "ipReasmTimeout\0" "ipReasmReqds\0" "ipReasmOKs\0" "ipReasmFails\0" "ipFragOKs\0" "ipFragFails\0"
+    "ipFragCreates\0" "ipAddrTable\0" "ipAddrEntry\0" "ipAdEntAddr\0" "ipAdEntIfIndex\0", "ipAdEntNetMask\0"
+    "ipAdEntBcastAddr\0" "ipAdEntReasmMaxSize\0" "ipNetToMediaTable\0" "ipNetToMediaEntry\0" "ipNetToMediaIfIndex\0"
+    "ipNetToMediaPhysAddress\0" "ipNetToMediaNetAddress\0" "ipNetToMediaType\0" "ipRoutingDiscards\0"
+    "ipv6IpForwarding\0" "ipv6IpDefaultHopLimit\0" "ipv4InterfaceTableLastChange\0" "ipv4InterfaceTable\0"
+    "ipv4InterfaceEntry\0" "ipv4InterfaceIfIndex\0" "ipv4InterfaceReasmMaxSize\0" "ipv4InterfaceEnableStatus\0"
+    "ipv4InterfaceRetransmitTime\0" "ipv6InterfaceTableLastChange\0" "ipv6InterfaceTable\0" "ipv6InterfaceEntry\0"
+    "ipv6InterfaceIfIndex\0", "ipv6InterfaceReasmMaxSize\0" "ipv6InterfaceIdentifier\0" "ipv6InterfaceEnableStatus\0"
+    "ipv6InterfaceReachableTime\0" "ipv6InterfaceRetransmitTime\0" "ipv6InterfaceForwarding\0" "ipTrafficStats\0"
+    "ipSystemStatsTable\0" "ipSystemStatsEntry\0" "ipSystemStatsIPVersion\0" "ipSystemStatsInReceives\0"
+    "ipSystemStatsHCInReceives\0" "ipSystemStatsInOctets\0" "ipSystemStatsHCInOctets\0" "ipSystemStatsInHdrErrors\0"
+    "ipSystemStatsInNoRoutes\0" "ipSystemStatsInAddrErrors\0" "ipSystemStatsInUnknownProtos\0"
+    "ipSystemStatsInTruncatedPkts\0" "ipSystemStatsInForwDatagrams\0", "ipSystemStatsHCInForwDatagrams\0"
+    "ipSystemStatsReasmReqds\0" "ipSystemStatsReasmOKs\0" "ipSystemStatsReasmFails\0" "ipSystemStatsInDiscards\0"
+    "ipSystemStatsInDelivers\0" "ipSystemStatsHCInDelivers\0" "ipSystemStatsOutRequests\0"
+    "ipSystemStatsHCOutRequests\0" "ipSystemStatsOutNoRoutes\0" "ipSystemStatsOutForwDatagrams\0"
+    "ipSystemStatsHCOutForwDatagrams\0" "ipSystemStatsOutDiscards\0" "ipSystemStatsOutFragReqds\0"
+    "ipSystemStatsOutFragOKs\0" "ipSystemStatsOutFragFails\0" "ipSystemStatsOutFragCreates\0"
+    "ipSystemStatsOutTransmits\0" "ipSystemStatsHCOutTransmits\0", "ipSystemStatsOutOctets\0"
+    "ipSystemStatsHCOutOctets\0" "ipSystemStatsInMcastPkts\0" "ipSystemStatsHCInMcastPkts\0"
+    "ipSystemStatsInMcastOctets\0" "ipSystemStatsHCInMcastOctets\0" "ipSystemStatsOutMcastPkts\0"
+    "ipSystemStatsHCOutMcastPkts\0" "ipSystemStatsOutMcastOctets\0" "ipSystemStatsHCOutMcastOctets\0"
+    "ipSystemStatsInBcastPkts\0" "ipSystemStatsHCInBcastPkts\0" "ipSystemStatsOutBcastPkts\0"
+    "ipSystemStatsHCOutBcastPkts\0" "ipSystemStatsDiscontinuityTime\0" "ipSystemStatsRefreshRate\0"
+    "ipIfStatsTableLastChange\0" "ipIfStatsTable\0" "ipIfStatsEntry\0" "ipIfStatsIPVersion\0", "ipIfStatsIfIndex\0"
+    "ipIfStatsInReceives\0" "ipIfStatsHCInReceives\0" "ipIfStatsInOctets\0" "ipIfStatsHCInOctets\0"
+    "ipIfStatsInHdrErrors\0" "ipIfStatsInNoRoutes\0" "ipIfStatsInAddrErrors\0" "ipIfStatsInUnknownProtos\0"
+    "ipIfStatsInTruncatedPkts\0" "ipIfStatsInForwDatagrams\0" "ipIfStatsHCInForwDatagrams\0" "ipIfStatsReasmReqds\0"
+    "ipIfStatsReasmOKs\0" "ipIfStatsReasmFails\0" "ipIfStatsInDiscards\0" "ipIfStatsInDelivers\0"
+    "ipIfStatsHCInDelivers\0" "ipIfStatsOutRequests\0" "ipIfStatsHCOutRequests\0" "ipIfStatsOutForwDatagrams\0"
+    "ipIfStatsHCOutForwDatagrams\0" "ipIfStatsOutDiscards\0", "ipIfStatsOutFragReqds\0" "ipIfStatsOutFragOKs\0"
+    "ipIfStatsOutFragFails\0" "ipIfStatsOutFragCreates\0" "ipIfStatsOutTransmits\0" "ipIfStatsHCOutTransmits\0"
+    "ipIfStatsOutOctets\0" "ipIfStatsHCOutOctets\0" "ipIfStatsInMcastPkts\0" "ipIfStatsHCInMcastPkts\0"
+    "ipIfStatsInMcastOctets\0" "ipIfStatsHCInMcastOctets\0" "ipIfStatsOutMcastPkts\0" "ipIfStatsHCOutMcastPkts\0"
+    "ipIfStatsOutMcastOctets\0" "ipIfStatsHCOutMcastOctets\0" "ipIfStatsInBcastPkts\0" "ipIfStatsHCInBcastPkts\0"
+    "ipIfStatsOutBcastPkts\0" "ipIfStatsHCOutBcastPkts\0" "ipIfStatsDiscontinuityTime\0" "ipIfStatsRefreshRate\0",
+    "ipAddressPrefixTable\0" "ipAddressPrefixEntry\0" "ipAddressPrefixIfIndex\0" "ipAddressPrefixType\0"
+    "ipAddressPrefixPrefix\0" "ipAddressPrefixLength\0" "ipAddressPrefixOrigin\0" "ipAddressPrefixOnLinkFlag\0"
+    "ipAddressPrefixAutonomousFlag\0" "ipAddressPrefixAdvPreferredLifetime\0" "ipAddressPrefixAdvValidLifetime\0"
+    "ipAddressSpinLock\0" "ipAddressTable\0" "ipAddressEntry\0" "ipAddressAddrType\0" "ipAddressAddr\0"
+    "ipAddressIfIndex\0" "ipAddressType\0" "ipAddressPrefix\0" "ipAddressOrigin\0" "ipAddressStatus\0"
+    "ipAddressCreated\0" "ipAddressLastChanged\0" "ipAddressRowStatus\0", "ipAddressStorageType\0"
+    "ipNetToPhysicalTable\0" "ipNetToPhysicalEntry\0" "ipNetToPhysicalIfIndex\0" "ipNetToPhysicalNetAddressType\0"
+    "ipNetToPhysicalNetAddress\0" "ipNetToPhysicalPhysAddress\0" "ipNetToPhysicalLastUpdated\0" "ipNetToPhysicalType\0"
+    "ipNetToPhysicalState\0" "ipNetToPhysicalRowStatus\0" "ipv6ScopeZoneIndexTable\0" "ipv6ScopeZoneIndexEntry\0"
+    "ipv6ScopeZoneIndexIfIndex\0" "ipv6ScopeZoneIndexLinkLocal\0" "ipv6ScopeZoneIndex3\0"
+    "ipv6ScopeZoneIndexAdminLocal\0" "ipv6ScopeZoneIndexSiteLocal\0" "ipv6ScopeZoneIndex6\0" "ipv6ScopeZoneIndex7\0",
+    "ipv6ScopeZoneIndexOrganizationLocal\0" "ipv6ScopeZoneIndex9\0" "ipv6ScopeZoneIndexA\0" "ipv6ScopeZoneIndexB\0"
+    "ipv6ScopeZoneIndexC\0" "ipv6ScopeZoneIndexD\0" "ipDefaultRouterTable\0" "ipDefaultRouterEntry\0"
+    "ipDefaultRouterAddressType\0" "ipDefaultRouterAddress\0" "ipDefaultRouterIfIndex\0" "ipDefaultRouterLifetime\0"
+    "ipDefaultRouterPreference\0" "ipv6RouterAdvertSpinLock\0" "ipv6RouterAdvertTable\0" "ipv6RouterAdvertEntry\0"
+    "ipv6RouterAdvertIfIndex\0" "ipv6RouterAdvertSendAdverts\0" "ipv6RouterAdvertMaxInterval\0"
+    "ipv6RouterAdvertMinInterval\0" "ipv6RouterAdvertManagedFlag\0", "ipv6RouterAdvertOtherConfigFlag\0"
+    "ipv6RouterAdvertLinkMTU\0" "ipv6RouterAdvertReachableTime\0" "ipv6RouterAdvertRetransmitTime\0"
+    "ipv6RouterAdvertCurHopLimit\0" "ipv6RouterAdvertDefaultLifetime\0" "ipv6RouterAdvertRowStatus\0" "icmp\0"
+    "icmpInMsgs\0" "icmpInErrors\0" "icmpInDestUnreachs\0" "icmpInTimeExcds\0" "icmpInParmProbs\0" "icmpInSrcQuenchs\0"
+    "icmpInRedirects\0" "icmpInEchos\0" "icmpInEchoReps\0" "icmpInTimestamps\0" "icmpInTimestampReps\0"
+    "icmpInAddrMasks\0" "icmpInAddrMaskReps\0" "icmpOutMsgs\0" "icmpOutErrors\0" "icmpOutDestUnreachs\0"
+    "icmpOutTimeExcds\0" "icmpOutParmProbs\0", "icmpOutSrcQuenchs\0" "icmpOutRedirects\0" "icmpOutEchos\0"
+    "icmpOutEchoReps\0" "icmpOutTimestamps\0" "icmpOutTimestampReps\0" "icmpOutAddrMasks\0" "icmpOutAddrMaskReps\0"
+    "icmpStatsTable\0" "icmpStatsEntry\0" "icmpStatsIPVersion\0" "icmpStatsInMsgs\0" "icmpStatsInErrors\0"
+    "icmpStatsOutMsgs\0" "icmpStatsOutErrors\0" "icmpMsgStatsTable\0" "icmpMsgStatsEntry\0" "icmpMsgStatsIPVersion\0"
+    "icmpMsgStatsType\0" "icmpMsgStatsInPkts\0" "icmpMsgStatsOutPkts\0" "ipMIB\0" "ipMIBConformance\0"
+    "ipMIBCompliances\0" "ipMIBCompliance\0" "ipMIBCompliance2\0" "ipMIBGroups\0" "ipGroup\0" "icmpGroup\0"
+    "ipv4GeneralGroup\0" "ipv4IfGroup\0", "ipv6GeneralGroup2\0" "ipv6IfGroup\0" "ipLastChangeGroup\0"
+    "ipSystemStatsGroup\0" "ipv4SystemStatsGroup\0" "ipSystemStatsHCOctetGroup\0" "ipSystemStatsHCPacketGroup\0"
+    "ipv4SystemStatsHCPacketGroup\0" "ipIfStatsGroup\0" "ipv4IfStatsGroup\0" "ipIfStatsHCOctetGroup\0"
+    "ipIfStatsHCPacketGroup\0" "ipv4IfStatsHCPacketGroup\0" "ipAddressPrefixGroup\0" "ipAddressGroup\0"
+    "ipNetToPhysicalGroup\0" "ipv6ScopeGroup\0" "ipDefaultRouterGroup\0" "ipv6RouterAdvertGroup\0" "icmpStatsGroup\0"
+    "tcp\0" "tcpRtoAlgorithm\0" "tcpRtoMin\0" "tcpRtoMax\0" "tcpMaxConn\0" "tcpActiveOpens\0" "tcpPassiveOpens\0"
+    "tcpAttemptFails\0", "tcpEstabResets\0" "tcpCurrEstab\0" "tcpInSegs\0" "tcpOutSegs\0" "tcpRetransSegs\0"
+    "tcpConnTable\0" "tcpConnEntry\0" "tcpConnState\0" "tcpConnLocalAddress\0" "tcpConnLocalPort\0"
+    "tcpConnRemAddress\0" "tcpConnRemPort\0" "tcpInErrs\0" "tcpOutRsts\0" "tcpHCInSegs\0" "tcpHCOutSegs\0"
+    "tcpConnectionTable\0" "tcpConnectionEntry\0" "tcpConnectionLocalAddressType\0" "tcpConnectionLocalAddress\0"
+    "tcpConnectionLocalPort\0" "tcpConnectionRemAddressType\0" "tcpConnectionRemAddress\0" "tcpConnectionRemPort\0"
+    "tcpConnectionState\0" "tcpConnectionProcess\0" "tcpListenerTable\0" "tcpListenerEntry\0",
+    "tcpListenerLocalAddressType\0" "tcpListenerLocalAddress\0" "tcpListenerLocalPort\0" "tcpListenerProcess\0"
+    "tcpMIB\0" "tcpMIBConformance\0" "tcpMIBCompliances\0" "tcpMIBCompliance\0" "tcpMIBCompliance2\0" "tcpMIBGroups\0"
+    "tcpGroup\0" "tcpBaseGroup\0" "tcpConnectionGroup\0" "tcpListenerGroup\0" "tcpHCGroup\0" "udp\0" "udpInDatagrams\0"
+    "udpNoPorts\0" "udpInErrors\0" "udpOutDatagrams\0" "udpTable\0" "udpEntry\0" "udpLocalAddress\0" "udpLocalPort\0"
+    "udpEndpointTable\0" "udpEndpointEntry\0" "udpEndpointLocalAddressType\0" "udpEndpointLocalAddress\0"
+    "udpEndpointLocalPort\0" "udpEndpointRemoteAddressType\0", "udpEndpointRemoteAddress\0" "udpEndpointRemotePort\0"
+    "udpEndpointInstance\0" "udpEndpointProcess\0" "udpHCInDatagrams\0" "udpHCOutDatagrams\0" "udpMIB\0"
+    "udpMIBConformance\0" "udpMIBCompliances\0" "udpMIBCompliance\0" "udpMIBCompliance2\0" "udpMIBGroups\0" "udpGroup\0"
+    "udpBaseGroup\0" "udpHCGroup\0" "udpEndpointGroup\0" "host\0" "hrSystem\0" "hrSystemUptime\0" "hrSystemDate\0"
+    "hrSystemInitialLoadDevice\0" "hrSystemInitialLoadParameters\0" "hrSystemNumUsers\0" "hrSystemProcesses\0"
+    "hrSystemMaxProcesses\0" "hrStorage\0" "hrStorageTypes\0" "hrMemorySize\0" "hrStorageTable\0" "hrStorageEntry\0"
+    "hrStorageIndex\0", "hrStorageType\0" "hrStorageDescr\0" "hrStorageAllocationUnits\0" "hrStorageSize\0"
+    "hrStorageUsed\0" "hrStorageAllocationFailures\0" "hrDevice\0" "hrDeviceTypes\0" "hrDeviceTable\0" "hrDeviceEntry\0"
+    "hrDeviceIndex\0" "hrDeviceType\0" "hrDeviceDescr\0" "hrDeviceID\0" "hrDeviceStatus\0" "hrDeviceErrors\0"
+    "hrProcessorTable\0" "hrProcessorEntry\0" "hrProcessorFrwID\0" "hrProcessorLoad\0" "hrNetworkTable\0"
+    "hrNetworkEntry\0" "hrNetworkIfIndex\0" "hrPrinterTable\0" "hrPrinterEntry\0" "hrPrinterStatus\0"
+    "hrPrinterDetectedErrorState\0" "hrDiskStorageTable\0" "hrDiskStorageEntry\0" "hrDiskStorageAccess\0"
+    "hrDiskStorageMedia\0", "hrDiskStorageRemoveble\0" "hrDiskStorageCapacity\0" "hrPartitionTable\0"
+    "hrPartitionEntry\0" "hrPartitionIndex\0" "hrPartitionLabel\0" "hrPartitionID\0" "hrPartitionSize\0"
+    "hrPartitionFSIndex\0" "hrFSTable\0" "hrFSEntry\0" "hrFSIndex\0" "hrFSMountPoint\0" "hrFSRemoteMountPoint\0"
+    "hrFSType\0" "hrFSAccess\0" "hrFSBootable\0" "hrFSStorageIndex\0" "hrFSLastFullBackupDate\0"
+    "hrFSLastPartialBackupDate\0" "hrFSTypes\0" "hrSWRun\0" "hrSWOSIndex\0" "hrSWRunTable\0" "hrSWRunEntry\0"
+    "hrSWRunIndex\0" "hrSWRunName\0" "hrSWRunID\0" "hrSWRunPath\0" "hrSWRunParameters\0" "hrSWRunType\0"
+    "hrSWRunStatus\0" "hrSWRunPerf\0" "hrSWRunPerfTable\0", "hrSWRunPerfEntry\0" "hrSWRunPerfCPU\0" "hrSWRunPerfMem\0"
+    "hrSWInstalled\0" "hrSWInstalledLastChange\0" "hrSWInstalledLastUpdateTime\0" "hrSWInstalledTable\0"
+    "hrSWInstalledEntry\0" "hrSWInstalledIndex\0" "hrSWInstalledName\0" "hrSWInstalledID\0" "hrSWInstalledType\0"
+    "hrSWInstalledDate\0" "hrMIBAdminInfo\0" "hostResourcesMibModule\0" "hrMIBCompliances\0" "hrMIBCompliance\0"
+    "hrMIBGroups\0" "hrSystemGroup\0" "hrStorageGroup\0" "hrDeviceGroup\0" "hrSWRunGroup\0" "hrSWRunPerfGroup\0"
+    "hrSWInstalledGroup\0" "RSA Data Security, Inc.\0" "RSA Data Security, Inc. PKCS\0" "MD2\0" "md2\0" "MD5\0" "md5\0"
+    "RC4\0" "rc4\0" "RSA-MD2\0" "RSA-MD5\0", "PBE-MD2-DES\0" "pbeWithMD2AndDES-CBC\0" "PBE-MD5-DES\0"
+    "pbeWithMD5AndDES-CBC\0" "X500\0" "directory services (X.500)\0" "X509\0" "RSA\0" "rsa\0" "pkcs7\0" "pkcs7-data\0"
+    "pkcs7-signedData\0" "pkcs7-envelopedData\0" "pkcs7-signedAndEnvelopedData\0" "pkcs7-digestData\0"
+    "pkcs7-encryptedData\0" "pkcs3\0" "dhKeyAgreement\0" "DES-ECB\0" "des-ecb\0" "DES-CFB\0" "des-cfb\0" "DES-CBC\0"
+    "des-cbc\0" "DES-EDE\0" "des-ede\0" "IDEA-CBC\0" "idea-cbc\0" "SHA\0" "sha\0" "RSA-SHA\0" "shaWithRSAEncryption\0"
+    "DES-OFB\0" "des-ofb\0" "pkcs9\0" "unstructuredName\0" "contentType\0" "messageDigest\0" "signingTime\0"
+    "countersignature\0" "challengePassword\0" "unstructuredAddress\0", "extendedCertificateAttributes\0" "Netscape\0"
+    "Netscape Communications Corp.\0" "nsCertExt\0" "Netscape Certificate Extension\0" "nsDataType\0"
+    "Netscape Data Type\0" "SHA1\0" "sha1\0" "RSA-SHA1\0" "DSA-SHA\0" "dsaWithSHA\0" "DSA-old\0" "dsaEncryption-old\0"
+    "PBE-SHA1-RC2-64\0" "pbeWithSHA1AndRC2-CBC\0" "PBKDF2\0" "DSA-SHA1-old\0" "dsaWithSHA1-old\0" "nsCertType\0"
+    "Netscape Cert Type\0" "nsBaseUrl\0" "Netscape Base Url\0" "nsRevocationUrl\0" "Netscape Revocation Url\0"
+    "nsCaRevocationUrl\0" "Netscape CA Revocation Url\0" "nsRenewalUrl\0" "Netscape Renewal Url\0" "nsCaPolicyUrl\0"
+    "Netscape CA Policy Url\0" "nsSslServerName\0", "Netscape SSL Server Name\0" "nsComment\0" "Netscape Comment\0"
+    "nsCertSequence\0" "Netscape Certificate Sequence\0" "subjectKeyIdentifier\0" "X509v3 Subject Key Identifier\0"
+    "keyUsage\0" "X509v3 Key Usage\0" "privateKeyUsagePeriod\0" "X509v3 Private Key Usage Period\0" "subjectAltName\0"
+    "X509v3 Subject Alternative Name\0" "issuerAltName\0" "X509v3 Issuer Alternative Name\0" "basicConstraints\0"
+    "X509v3 Basic Constraints\0" "crlNumber\0" "X509v3 CRL Number\0" "certificatePolicies\0"
+    "X509v3 Certificate Policies\0" "authorityKeyIdentifier\0" "X509v3 Authority Key Identifier\0" "BF-CBC\0"
+    "bf-cbc\0", "MDC2\0" "mdc2\0" "RSA-MDC2\0" "mdc2WithRSA\0" "uid\0" "crlDistributionPoints\0"
+    "X509v3 CRL Distribution Points\0" "RSA-NP-MD5\0" "md5WithRSA\0" "CAST5-CBC\0" "cast5-cbc\0"
+    "pbeWithMD5AndCast5CBC\0" "DSA-SHA1\0" "dsaWithSHA1\0" "RSA-SHA1-2\0" "sha1WithRSA\0" "DSA\0" "dsaEncryption\0"
+    "RIPEMD160\0" "ripemd160\0" "RSA-RIPEMD160\0" "ripemd160WithRSA\0" "RC5-CBC\0" "rc5-cbc\0" "ZLIB\0"
+    "zlib compression\0" "extendedKeyUsage\0" "X509v3 Extended Key Usage\0" "PKIX\0" "serverAuth\0"
+    "TLS Web Server Authentication\0" "clientAuth\0" "TLS Web Client Authentication\0" "codeSigning\0" "Code Signing\0"
+    "emailProtection\0" "E-mail Protection\0" "timeStamping\0", "Time Stamping\0" "msCodeInd\0"
+    "Microsoft Individual Code Signing\0" "msCodeCom\0" "Microsoft Commercial Code Signing\0" "msCTLSign\0"
+    "Microsoft Trust List Signing\0" "msSGC\0" "Microsoft Server Gated Crypto\0" "msEFS\0"
+    "Microsoft Encrypted File System\0" "nsSGC\0" "Netscape Server Gated Crypto\0" "deltaCRL\0"
+    "X509v3 Delta CRL Indicator\0" "CRLReason\0" "X509v3 CRL Reason Code\0" "invalidityDate\0" "Invalidity Date\0"
+    "SXNetID\0" "Strong Extranet ID\0" "PBE-SHA1-RC4-128\0" "pbeWithSHA1And128BitRC4\0" "PBE-SHA1-RC4-40\0"
+    "pbeWithSHA1And40BitRC4\0" "PBE-SHA1-3DES\0" "pbeWithSHA1And3-KeyTripleDES-CBC\0", "PBE-SHA1-2DES\0"
+    "pbeWithSHA1And2-KeyTripleDES-CBC\0" "PBE-SHA1-RC2-128\0" "pbeWithSHA1And128BitRC2-CBC\0" "PBE-SHA1-RC2-40\0"
+    "pbeWithSHA1And40BitRC2-CBC\0" "keyBag\0" "pkcs8ShroudedKeyBag\0" "certBag\0" "crlBag\0" "secretBag\0"
+    "safeContentsBag\0" "friendlyName\0" "localKeyID\0" "x509Certificate\0" "sdsiCertificate\0" "x509Crl\0" "PBES2\0"
+    "PBMAC1\0" "hmacWithSHA1\0" "Policy Qualifier CPS\0" "Policy Qualifier User Notice\0" "SMIME-CAPS\0"
+    "S/MIME Capabilities\0" "PBE-MD2-RC2-64\0" "pbeWithMD2AndRC2-CBC\0" "PBE-MD5-RC2-64\0" "pbeWithMD5AndRC2-CBC\0"
+    "PBE-SHA1-DES\0" "pbeWithSHA1AndDES-CBC\0" "msExtReq\0", "Microsoft Extension Request\0" "extReq\0"
+    "Extension Request\0" "authorityInfoAccess\0" "Authority Information Access\0" "OCSP\0" "caIssuers\0" "CA Issuers\0"
+    "OCSPSigning\0" "OCSP Signing\0" "member-body\0" "ISO Member Body\0" "ISO-US\0" "ISO US Member Body\0" "X9-57\0"
+    "X9.57\0" "X9cm\0" "X9.57 CM ?\0" "pkcs1\0" "pkcs5\0" "S/MIME\0" "id-smime-mod\0" "id-smime-ct\0" "id-smime-aa\0"
+    "id-smime-alg\0" "id-smime-cd\0" "id-smime-spq\0" "id-smime-cti\0" "id-smime-mod-cms\0" "id-smime-mod-ess\0"
+    "id-smime-mod-oid\0" "id-smime-mod-msg-v3\0" "id-smime-mod-ets-eSignature-88\0" "id-smime-mod-ets-eSignature-97\0"
+    "id-smime-mod-ets-eSigPolicy-88\0", "id-smime-mod-ets-eSigPolicy-97\0" "id-smime-ct-receipt\0"
+    "id-smime-ct-authData\0" "id-smime-ct-publishCert\0" "id-smime-ct-TSTInfo\0" "id-smime-ct-TDTInfo\0"
+    "id-smime-ct-contentInfo\0" "id-smime-ct-DVCSRequestData\0" "id-smime-ct-DVCSResponseData\0"
+    "id-smime-aa-receiptRequest\0" "id-smime-aa-securityLabel\0" "id-smime-aa-mlExpandHistory\0"
+    "id-smime-aa-contentHint\0" "id-smime-aa-msgSigDigest\0" "id-smime-aa-encapContentType\0"
+    "id-smime-aa-contentIdentifier\0" "id-smime-aa-macValue\0" "id-smime-aa-equivalentLabels\0"
+    "id-smime-aa-contentReference\0", "id-smime-aa-encrypKeyPref\0" "id-smime-aa-signingCertificate\0"
+    "id-smime-aa-smimeEncryptCerts\0" "id-smime-aa-timeStampToken\0" "id-smime-aa-ets-sigPolicyId\0"
+    "id-smime-aa-ets-commitmentType\0" "id-smime-aa-ets-signerLocation\0" "id-smime-aa-ets-signerAttr\0"
+    "id-smime-aa-ets-otherSigCert\0" "id-smime-aa-ets-contentTimestamp\0" "id-smime-aa-ets-CertificateRefs\0"
+    "id-smime-aa-ets-RevocationRefs\0" "id-smime-aa-ets-certValues\0" "id-smime-aa-ets-revocationValues\0"
+    "id-smime-aa-ets-escTimeStamp\0" "id-smime-aa-ets-certCRLTimestamp\0", "id-smime-aa-ets-archiveTimeStamp\0"
+    "id-smime-aa-signatureType\0" "id-smime-aa-dvcs-dvc\0" "id-smime-alg-ESDHwith3DES\0" "id-smime-alg-ESDHwithRC2\0"
+    "id-smime-alg-3DESwrap\0" "id-smime-alg-RC2wrap\0" "id-smime-alg-ESDH\0" "id-smime-alg-CMS3DESwrap\0"
+    "id-smime-alg-CMSRC2wrap\0" "id-smime-cd-ldap\0" "id-smime-spq-ets-sqt-uri\0" "id-smime-spq-ets-sqt-unotice\0"
+    "id-smime-cti-ets-proofOfOrigin\0" "id-smime-cti-ets-proofOfReceipt\0" "id-smime-cti-ets-proofOfDelivery\0"
+    "id-smime-cti-ets-proofOfSender\0" "id-smime-cti-ets-proofOfApproval\0" "id-smime-cti-ets-proofOfCreation\0"
+    "MD4\0", "md4\0" "id-pkix-mod\0" "id-pkix1-explicit-88\0" "id-pkix1-implicit-88\0" "id-pkix1-explicit-93\0"
+    "id-pkix1-implicit-93\0" "id-mod-crmf\0" "id-mod-cmc\0" "id-mod-kea-profile-88\0" "id-mod-kea-profile-93\0"
+    "id-mod-cmp\0" "id-mod-qualified-cert-88\0" "id-mod-qualified-cert-93\0" "id-mod-attribute-cert\0"
+    "id-mod-timestamp-protocol\0" "id-mod-ocsp\0" "id-mod-dvcs\0" "id-mod-cmp2000\0" "biometricInfo\0"
+    "Biometric Info\0" "qcStatements\0" "ac-auditEntity\0" "ac-targeting\0" "aaControls\0" "sbgp-ipAddrBlock\0"
+    "sbgp-autonomousSysNum\0" "sbgp-routerIdentifier\0" "textNotice\0" "ipsecEndSystem\0" "IPSec End System\0",
+    "ipsecTunnel\0" "IPSec Tunnel\0" "ipsecUser\0" "IPSec User\0" "DVCS\0" "dvcs\0" "id-it-subscriptionRequest\0"
+    "id-it-subscriptionResponse\0" "id-alg-des40\0" "id-alg-dh-sig-hmac-sha1\0" "id-alg-dh-pop\0" "id-on-personalData\0"
+    "id-pda-dateOfBirth\0" "id-pda-placeOfBirth\0" "id-pda-gender\0" "id-pda-countryOfCitizenship\0"
+    "id-pda-countryOfResidence\0" "id-aca-role\0" "id-qcs-pkixQCSyntax-v1\0" "id-cct-crs\0" "ad_timestamping\0"
+    "AD Time Stamping\0" "AD_DVCS\0" "ad dvcs\0" "basicOCSPResponse\0" "Basic OCSP Response\0" "Nonce\0" "OCSP Nonce\0"
+    "CrlID\0" "OCSP CRL ID\0" "acceptableResponses\0" "Acceptable OCSP Responses\0" "noCheck\0", "OCSP No Check\0"
+    "archiveCutoff\0" "OCSP Archive Cutoff\0" "serviceLocator\0" "OCSP Service Locator\0" "extendedStatus\0"
+    "Extended OCSP Status\0" "valid\0" "path\0" "trustRoot\0" "Trust Root\0" "algorithm\0" "rsaSignature\0"
+    "X500algorithms\0" "directory services - algorithms\0" "ORG\0" "DOD\0" "IANA\0" "iana\0" "Directory\0"
+    "Management\0" "Experimental\0" "Private\0" "Security\0" "snmpv2\0" "SNMPv2\0" "Mail\0" "Enterprises\0"
+    "selected-attribute-types\0" "Selected Attribute Types\0" "clearance\0" "RSA-MD4\0" "md4WithRSAEncryption\0"
+    "ac-proxying\0" "subjectInfoAccess\0" "Subject Information Access\0" "role\0" "policyConstraints\0",
+    "X509v3 Policy Constraints\0" "targetInformation\0" "X509v3 AC Targeting\0" "noRevAvail\0"
+    "X509v3 No Revocation Available\0" "ANSI X9.62\0" "prime-field\0" "characteristic-two-field\0" "prime192v1\0"
+    "prime192v2\0" "prime192v3\0" "prime239v1\0" "prime239v2\0" "prime239v3\0" "prime256v1\0" "ecdsa-with-SHA1\0"
+    "CSPName\0" "Microsoft CSP Name\0" "AES-128-ECB\0" "aes-128-ecb\0" "AES-128-CBC\0" "aes-128-cbc\0" "AES-128-OFB\0"
+    "aes-128-ofb\0" "AES-128-CFB\0" "aes-128-cfb\0" "AES-192-ECB\0" "aes-192-ecb\0" "AES-192-CBC\0" "aes-192-cbc\0"
+    "AES-192-OFB\0" "aes-192-ofb\0" "AES-192-CFB\0" "aes-192-cfb\0" "AES-256-ECB\0" "aes-256-ecb\0" "AES-256-CBC\0",
+    "aes-256-cbc\0" "AES-256-OFB\0" "aes-256-ofb\0" "AES-256-CFB\0" "aes-256-cfb\0" "holdInstructionCode\0"
+    "Hold Instruction Code\0" "holdInstructionNone\0" "Hold Instruction None\0" "holdInstructionCallIssuer\0"
+    "Hold Instruction Call Issuer\0" "holdInstructionReject\0" "Hold Instruction Reject\0" "data\0" "pss\0" "ucl\0"
+    "pilot\0" "pilotAttributeType\0" "pilotAttributeSyntax\0" "pilotObjectClass\0" "pilotGroups\0" "iA5StringSyntax\0"
+    "caseIgnoreIA5StringSyntax\0" "documentSeries\0" "homeTelephoneNumber\0" "pilotAttributeType27\0" "mime-mhs\0"
+    "MIME MHS\0" "mime-mhs-headings\0" "mime-mhs-bodies\0" "id-hex-partial-message\0", "id-hex-multipart-message\0"
+    "id-set\0" "Secure Electronic Transactions\0" "set-ctype\0" "content types\0" "set-msgExt\0" "message extensions\0"
+    "set-attr\0" "set-policy\0" "set-certExt\0" "certificate extensions\0" "set-brand\0" "setct-PANData\0"
+    "setct-PANToken\0" "setct-PANOnly\0" "setct-OIData\0" "setct-PI\0" "setct-PIData\0" "setct-PIDataUnsigned\0"
+    "setct-HODInput\0" "setct-AuthResBaggage\0" "setct-AuthRevReqBaggage\0" "setct-AuthRevResBaggage\0"
+    "setct-CapTokenSeq\0" "setct-PInitResData\0" "setct-PI-TBS\0" "setct-PResData\0" "setct-AuthReqTBS\0"
+    "setct-AuthResTBS\0" "setct-AuthResTBSX\0" "setct-AuthTokenTBS\0", "setct-CapTokenData\0" "setct-CapTokenTBS\0"
+    "setct-AcqCardCodeMsg\0" "setct-AuthRevReqTBS\0" "setct-AuthRevResData\0" "setct-AuthRevResTBS\0"
+    "setct-CapReqTBS\0" "setct-CapReqTBSX\0" "setct-CapResData\0" "setct-CapRevReqTBS\0" "setct-CapRevReqTBSX\0"
+    "setct-CapRevResData\0" "setct-CredReqTBS\0" "setct-CredReqTBSX\0" "setct-CredResData\0" "setct-CredRevReqTBS\0"
+    "setct-CredRevReqTBSX\0" "setct-CredRevResData\0" "setct-PCertReqData\0" "setct-PCertResTBS\0"
+    "setct-BatchAdminReqData\0" "setct-BatchAdminResData\0" "setct-CardCInitResTBS\0" "setct-MeAqCInitResTBS\0"
+    "setct-RegFormResTBS\0", "setct-CertReqData\0" "setct-CertReqTBS\0" "setct-CertResData\0" "setct-CertInqReqTBS\0"
+    "setct-ErrorTBS\0" "setct-PIDualSignedTBE\0" "setct-PIUnsignedTBE\0" "setct-AuthReqTBE\0" "setct-AuthResTBE\0"
+    "setct-AuthResTBEX\0" "setct-AuthTokenTBE\0" "setct-CapTokenTBE\0" "setct-CapTokenTBEX\0"
+    "setct-AcqCardCodeMsgTBE\0" "setct-AuthRevReqTBE\0" "setct-AuthRevResTBE\0" "setct-AuthRevResTBEB\0"
+    "setct-CapReqTBE\0" "setct-CapReqTBEX\0" "setct-CapResTBE\0" "setct-CapRevReqTBE\0" "setct-CapRevReqTBEX\0"
+    "setct-CapRevResTBE\0" "setct-CredReqTBE\0" "setct-CredReqTBEX\0" "setct-CredResTBE\0" "setct-CredRevReqTBE\0",
+    "setct-CredRevReqTBEX\0" "setct-CredRevResTBE\0" "setct-BatchAdminReqTBE\0" "setct-BatchAdminResTBE\0"
+    "setct-RegFormReqTBE\0" "setct-CertReqTBE\0" "setct-CertReqTBEX\0" "setct-CertResTBE\0" "setct-CRLNotificationTBS\0"
+    "setct-CRLNotificationResTBS\0" "setct-BCIDistributionTBS\0" "setext-genCrypt\0" "generic cryptogram\0"
+    "setext-miAuth\0" "merchant initiated auth\0" "setext-pinSecure\0" "setext-pinAny\0" "setext-track2\0" "setext-cv\0"
+    "additional verification\0" "set-policy-root\0" "setCext-hashedRoot\0" "setCext-certType\0" "setCext-merchData\0"
+    "setCext-cCertRequired\0" "setCext-tunneling\0", "setCext-setExt\0" "setCext-setQualf\0"
+    "setCext-PGWYcapabilities\0" "setCext-TokenIdentifier\0" "setCext-Track2Data\0" "setCext-TokenType\0"
+    "setCext-IssuerCapabilities\0" "setAttr-Cert\0" "setAttr-PGWYcap\0" "payment gateway capabilities\0"
+    "setAttr-TokenType\0" "setAttr-IssCap\0" "issuer capabilities\0" "set-rootKeyThumb\0" "set-addPolicy\0"
+    "setAttr-Token-EMV\0" "setAttr-Token-B0Prime\0" "setAttr-IssCap-CVM\0" "setAttr-IssCap-T2\0" "setAttr-IssCap-Sig\0"
+    "setAttr-GenCryptgrm\0" "generate cryptogram\0" "setAttr-T2Enc\0" "encrypted track 2\0" "setAttr-T2cleartxt\0"
+    "cleartext track 2\0", "setAttr-TokICCsig\0" "ICC or token signature\0" "setAttr-SecDevSig\0"
+    "secure device signature\0" "set-brand-IATA-ATA\0" "set-brand-Diners\0" "set-brand-AmericanExpress\0"
+    "set-brand-JCB\0" "set-brand-Visa\0" "set-brand-MasterCard\0" "set-brand-Novus\0" "DES-CDMF\0" "des-cdmf\0"
+    "rsaOAEPEncryptionSET\0" "international-organizations\0" "International Organizations\0" "msSmartcardLogin\0"
+    "Microsoft Smartcard Login\0" "msUPN\0" "Microsoft User Principal Name\0" "proxyCertInfo\0"
+    "Proxy Certificate Information\0" "id-ppl-anyLanguage\0" "Any language\0" "id-ppl-inheritAll\0" "Inherit all\0"
+    "nameConstraints\0", "X509v3 Name Constraints\0" "id-ppl-independent\0" "Independent\0" "RSA-SHA256\0"
+    "RSA-SHA384\0" "RSA-SHA512\0" "RSA-SHA224\0" "SHA256\0" "sha256\0" "SHA384\0" "sha384\0" "SHA512\0" "sha512\0"
+    "SHA224\0" "sha224\0" "identified-organization\0" "certicom-arc\0" "wap\0" "wap-wsg\0"
+    "id-characteristic-two-basis\0" "onBasis\0" "tpBasis\0" "ppBasis\0" "c2pnb163v1\0" "c2pnb163v2\0" "c2pnb163v3\0"
+    "c2pnb176v1\0" "c2tnb191v1\0" "c2tnb191v2\0" "c2tnb191v3\0" "c2onb191v4\0" "c2onb191v5\0" "c2pnb208w1\0"
+    "c2tnb239v1\0" "c2tnb239v2\0" "c2tnb239v3\0" "c2onb239v4\0" "c2onb239v5\0" "c2pnb272w1\0" "c2pnb304w1\0"
+    "c2tnb359v1\0" "c2pnb368w1\0" "c2tnb431r1\0" "secp112r1\0" "secp112r2\0" "secp128r1\0", "secp128r2\0" "secp160k1\0"
+    "secp160r1\0" "secp160r2\0" "secp192k1\0" "secp224k1\0" "secp256k1\0" "sect113r1\0" "sect113r2\0" "sect131r1\0"
+    "sect131r2\0" "sect163r1\0" "sect193r1\0" "sect193r2\0" "sect239k1\0" "wap-wsg-idm-ecid-wtls1\0"
+    "wap-wsg-idm-ecid-wtls3\0" "wap-wsg-idm-ecid-wtls4\0" "wap-wsg-idm-ecid-wtls5\0" "wap-wsg-idm-ecid-wtls6\0"
+    "wap-wsg-idm-ecid-wtls7\0" "wap-wsg-idm-ecid-wtls8\0" "wap-wsg-idm-ecid-wtls9\0" "wap-wsg-idm-ecid-wtls10\0"
+    "wap-wsg-idm-ecid-wtls11\0" "wap-wsg-idm-ecid-wtls12\0" "X509v3 Any Policy\0" "policyMappings\0"
+    "X509v3 Policy Mappings\0" "inhibitAnyPolicy\0" "X509v3 Inhibit Any Policy\0", "CAMELLIA-128-CBC\0"
+    "camellia-128-cbc\0" "CAMELLIA-192-CBC\0" "camellia-192-cbc\0" "CAMELLIA-256-CBC\0" "camellia-256-cbc\0"
+    "CAMELLIA-128-ECB\0" "camellia-128-ecb\0" "CAMELLIA-192-ECB\0" "camellia-192-ecb\0" "CAMELLIA-256-ECB\0"
+    "camellia-256-ecb\0" "CAMELLIA-128-CFB\0" "camellia-128-cfb\0" "CAMELLIA-192-CFB\0" "camellia-192-cfb\0"
+    "CAMELLIA-256-CFB\0" "camellia-256-cfb\0" "CAMELLIA-128-OFB\0" "camellia-128-ofb\0" "CAMELLIA-192-OFB\0"
+    "camellia-192-ofb\0" "CAMELLIA-256-OFB\0" "camellia-256-ofb\0" "subjectDirectoryAttributes\0"
+    "X509v3 Subject Directory Attributes\0" "issuingDistributionPoint\0", "X509v3 Issuing Distribution Point\0"
+    "certificateIssuer\0" "X509v3 Certificate Issuer\0" "KISA\0" "kisa\0" "SEED-ECB\0" "seed-ecb\0" "SEED-CBC\0"
+    "seed-cbc\0" "SEED-OFB\0" "seed-ofb\0" "SEED-CFB\0" "seed-cfb\0" "HMAC-MD5\0" "hmac-md5\0" "password based MAC\0"
+    "Diffie-Hellman based MAC\0" "caRepository\0" "CA Repository\0" "id-smime-ct-compressedData\0"
+    "id-ct-asciiTextWithCRLF\0" "ecdsa-with-Recommended\0" "ecdsa-with-Specified\0" "hmacWithMD5\0" "hmacWithSHA224\0"
+    "hmacWithSHA256\0" "hmacWithSHA384\0" "hmacWithSHA512\0" "dsa_with_SHA224\0" "dsa_with_SHA256\0" "whirlpool\0"
+    "cryptopro\0" "cryptocom\0", "id-GostR3411-94-with-GostR3410-2001\0" "GOST R 34.11-94 with GOST R 34.10-2001\0"
+    "id-GostR3411-94-with-GostR3410-94\0" "GOST R 34.11-94 with GOST R 34.10-94\0" "md_gost94\0" "GOST R 34.11-94\0"
+    "id-HMACGostR3411-94\0" "HMAC GOST 34.11-94\0" "gost2001\0" "GOST R 34.10-2001\0" "gost94\0" "GOST R 34.10-94\0"
+    "gost89\0" "GOST 28147-89\0" "gost-mac\0" "GOST 28147-89 MAC\0" "prf-gostr3411-94\0" "GOST R 34.11-94 PRF\0"
+    "id-GostR3410-2001DH\0" "GOST R 34.10-2001 DH\0" "id-GostR3410-94DH\0" "GOST R 34.10-94 DH\0"
+    "id-Gost28147-89-CryptoPro-KeyMeshing\0" "id-Gost28147-89-None-KeyMeshing\0", "id-GostR3411-94-TestParamSet\0"
+    "id-GostR3411-94-CryptoProParamSet\0" "id-Gost28147-89-TestParamSet\0" "id-Gost28147-89-CryptoPro-A-ParamSet\0"
+    "id-Gost28147-89-CryptoPro-B-ParamSet\0" "id-Gost28147-89-CryptoPro-C-ParamSet\0"
+    "id-Gost28147-89-CryptoPro-D-ParamSet\0" "id-Gost28147-89-CryptoPro-Oscar-1-1-ParamSet\0"
+    "id-Gost28147-89-CryptoPro-Oscar-1-0-ParamSet\0" "id-Gost28147-89-CryptoPro-RIC-1-ParamSet\0"
+    "id-GostR3410-94-TestParamSet\0" "id-GostR3410-94-CryptoPro-A-ParamSet\0" "id-GostR3410-94-CryptoPro-B-ParamSet\0",
+    "id-GostR3410-94-CryptoPro-C-ParamSet\0" "id-GostR3410-94-CryptoPro-D-ParamSet\0"
+    "id-GostR3410-94-CryptoPro-XchA-ParamSet\0" "id-GostR3410-94-CryptoPro-XchB-ParamSet\0"
+    "id-GostR3410-94-CryptoPro-XchC-ParamSet\0" "id-GostR3410-2001-TestParamSet\0"
+    "id-GostR3410-2001-CryptoPro-A-ParamSet\0" "id-GostR3410-2001-CryptoPro-B-ParamSet\0"
+    "id-GostR3410-2001-CryptoPro-C-ParamSet\0" "id-GostR3410-2001-CryptoPro-XchA-ParamSet\0"
+    "id-GostR3410-2001-CryptoPro-XchB-ParamSet\0" "id-GostR3410-94-a\0" "id-GostR3410-94-aBis\0" "id-GostR3410-94-b\0"
+    "id-GostR3410-94-bBis\0", "id-Gost28147-89-cc\0" "GOST 28147-89 Cryptocom ParamSet\0" "gost94cc\0"
+    "GOST 34.10-94 Cryptocom\0" "gost2001cc\0" "GOST 34.10-2001 Cryptocom\0" "id-GostR3411-94-with-GostR3410-94-cc\0"
+    "GOST R 34.11-94 with GOST R 34.10-94 Cryptocom\0" "id-GostR3411-94-with-GostR3410-2001-cc\0"
+    "GOST R 34.11-94 with GOST R 34.10-2001 Cryptocom\0" "id-GostR3410-2001-ParamSet-cc\0"
+    "GOST R 3410-2001 Parameter Set Cryptocom\0" "LocalKeySet\0" "Microsoft Local Key set\0" "freshestCRL\0"
+    "X509v3 Freshest CRL\0" "id-on-permanentIdentifier\0" "Permanent Identifier\0" "id-alg-PWRI-KEK\0" "aes-128-gcm\0",
+    "aes-128-ccm\0" "id-aes128-wrap-pad\0" "aes-192-gcm\0" "aes-192-ccm\0" "id-aes192-wrap-pad\0" "aes-256-gcm\0"
+    "aes-256-ccm\0" "id-aes256-wrap-pad\0" "id-camellia128-wrap\0" "id-camellia192-wrap\0" "id-camellia256-wrap\0"
+    "Any Extended Key Usage\0" "MGF1\0" "mgf1\0" "RSASSA-PSS\0" "rsassaPss\0" "AES-128-XTS\0" "aes-128-xts\0"
+    "AES-256-XTS\0" "aes-256-xts\0" "RSAES-OAEP\0" "rsaesOaep\0" "X9.42 DH\0" "PSPECIFIED\0" "pSpecified\0"
+    "ct_precert_scts\0" "CT Precertificate SCTs\0" "ct_precert_poison\0" "CT Precertificate Poison\0"
+    "ct_precert_signer\0" "CT Precertificate Signer\0" "ct_cert_scts\0" "CT Certificate SCTs\0" "jurisdictionL\0",
+    "jurisdictionLocalityName\0" "jurisdictionST\0" "jurisdictionStateOrProvinceName\0" "jurisdictionC\0"
+    "jurisdictionCountryName\0" "CAMELLIA-128-GCM\0" "camellia-128-gcm\0" "CAMELLIA-128-CCM\0" "camellia-128-ccm\0"
+    "CAMELLIA-128-CTR\0" "camellia-128-ctr\0" "CAMELLIA-128-CMAC\0" "camellia-128-cmac\0" "CAMELLIA-192-GCM\0"
+    "camellia-192-gcm\0" "CAMELLIA-192-CCM\0" "camellia-192-ccm\0" "CAMELLIA-192-CTR\0" "camellia-192-ctr\0"
+    "CAMELLIA-192-CMAC\0" "camellia-192-cmac\0" "CAMELLIA-256-GCM\0" "camellia-256-gcm\0" "CAMELLIA-256-CCM\0"
+    "camellia-256-ccm\0" "CAMELLIA-256-CTR\0" "camellia-256-ctr\0" "CAMELLIA-256-CMAC\0", "camellia-256-cmac\0"
+    "id-scrypt\0" "scrypt\0" "id-tc26\0" "id-tc26-algorithms\0" "id-tc26-sign\0" "gost2012_256\0"
+    "GOST R 34.10-2012 with 256 bit modulus\0" "gost2012_512\0" "GOST R 34.10-2012 with 512 bit modulus\0"
+    "id-tc26-digest\0" "md_gost12_256\0" "GOST R 34.11-2012 with 256 bit hash\0" "md_gost12_512\0"
+    "GOST R 34.11-2012 with 512 bit hash\0" "id-tc26-signwithdigest\0" "id-tc26-signwithdigest-gost3410-2012-256\0"
+    "GOST R 34.10-2012 with GOST R 34.11-2012 (256 bit)\0" "id-tc26-signwithdigest-gost3410-2012-512\0"
+    "GOST R 34.10-2012 with GOST R 34.11-2012 (512 bit)\0", "id-tc26-mac\0" "id-tc26-hmac-gost-3411-2012-256\0"
+    "HMAC GOST 34.11-2012 256 bit\0" "id-tc26-hmac-gost-3411-2012-512\0" "HMAC GOST 34.11-2012 512 bit\0"
+    "id-tc26-cipher\0" "id-tc26-agreement\0" "id-tc26-agreement-gost-3410-2012-256\0"
+    "id-tc26-agreement-gost-3410-2012-512\0" "id-tc26-constants\0" "id-tc26-sign-constants\0"
+    "id-tc26-gost-3410-2012-512-constants\0" "id-tc26-gost-3410-2012-512-paramSetTest\0"
+    "GOST R 34.10-2012 (512 bit) testing parameter set\0" "id-tc26-gost-3410-2012-512-paramSetA\0"
+    "GOST R 34.10-2012 (512 bit) ParamSet A\0", "id-tc26-gost-3410-2012-512-paramSetB\0"
+    "GOST R 34.10-2012 (512 bit) ParamSet B\0" "id-tc26-digest-constants\0" "id-tc26-cipher-constants\0"
+    "id-tc26-gost-28147-constants\0" "id-tc26-gost-28147-param-Z\0" "GOST 28147-89 TC26 parameter set\0" "INN\0"
+    "OGRN\0" "SNILS\0" "subjectSignTool\0" "Signing Tool of Subject\0" "issuerSignTool\0" "Signing Tool of Issuer\0"
+    "tlsfeature\0" "TLS Feature\0" "ipsecIKE\0" "ipsec Internet Key Exchange\0" "capwapAC\0"
+    "Ctrl/provision WAP Access\0" "capwapWTP\0" "Ctrl/Provision WAP Termination\0" "secureShellClient\0" "SSH Client\0"
+    "secureShellServer\0" "SSH Server\0", "sendRouter\0" "Send Router\0" "sendProxiedRouter\0" "Send Proxied Router\0"
+    "sendOwner\0" "Send Owner\0" "sendProxiedOwner\0" "Send Proxied Owner\0" "id-pkinit\0" "pkInitClientAuth\0"
+    "PKINIT Client Auth\0" "pkInitKDC\0" "Signing KDC Response\0" "X25519\0" "X448\0" "BLAKE2b512\0" "blake2b512\0"
+    "BLAKE2s256\0" "blake2s256\0" "id-smime-ct-contentCollection\0" "id-smime-ct-authEnvelopedData\0" "id-ct-xml\0"
+    "ARIA-128-ECB\0" "aria-128-ecb\0" "ARIA-128-CBC\0" "aria-128-cbc\0" "ARIA-128-CFB\0" "aria-128-cfb\0"
+    "ARIA-128-OFB\0" "aria-128-ofb\0" "ARIA-128-CTR\0" "aria-128-ctr\0" "ARIA-192-ECB\0" "aria-192-ecb\0"
+    "ARIA-192-CBC\0" "aria-192-cbc\0", "ARIA-192-CFB\0" "aria-192-cfb\0" "ARIA-192-OFB\0" "aria-192-ofb\0"
+    "ARIA-192-CTR\0" "aria-192-ctr\0" "ARIA-256-ECB\0" "aria-256-ecb\0" "ARIA-256-CBC\0" "aria-256-cbc\0"
+    "ARIA-256-CFB\0" "aria-256-cfb\0" "ARIA-256-OFB\0" "aria-256-ofb\0" "ARIA-256-CTR\0" "aria-256-ctr\0"
+    "id-smime-aa-signingCertificateV2\0" "ED25519\0" "ED448\0" "organizationIdentifier\0" "c3\0" "countryCode3c\0"
+    "n3\0" "countryCode3n\0" "dnsName\0" "x509ExtAdmission\0" "Professional Information or basis for Admission\0"
+    "SHA512-224\0" "sha512-224\0" "SHA512-256\0" "sha512-256\0" "SHA3-224\0" "sha3-224\0" "SHA3-256\0" "sha3-256\0"
+    "SHA3-384\0" "sha3-384\0" "SHA3-512\0" "sha3-512\0", "SHAKE128\0" "shake128\0" "SHAKE256\0" "shake256\0"
+    "hmac-sha3-224\0" "hmac-sha3-256\0" "hmac-sha3-384\0" "hmac-sha3-512\0" "id-dsa-with-sha384\0" "dsa_with_SHA384\0"
+    "id-dsa-with-sha512\0" "dsa_with_SHA512\0" "id-dsa-with-sha3-224\0" "dsa_with_SHA3-224\0" "id-dsa-with-sha3-256\0"
+    "dsa_with_SHA3-256\0" "id-dsa-with-sha3-384\0" "dsa_with_SHA3-384\0" "id-dsa-with-sha3-512\0" "dsa_with_SHA3-512\0"
+    "ecdsa_with_SHA3-224\0" "ecdsa_with_SHA3-256\0" "ecdsa_with_SHA3-384\0" "ecdsa_with_SHA3-512\0"
+    "id-rsassa-pkcs1-v1_5-with-sha3-224\0" "RSA-SHA3-224\0" "id-rsassa-pkcs1-v1_5-with-sha3-256\0" "RSA-SHA3-256\0",
+    "id-rsassa-pkcs1-v1_5-with-sha3-384\0" "RSA-SHA3-384\0" "id-rsassa-pkcs1-v1_5-with-sha3-512\0" "RSA-SHA3-512\0"
+    "ARIA-128-CCM\0" "aria-128-ccm\0" "ARIA-192-CCM\0" "aria-192-ccm\0" "ARIA-256-CCM\0" "aria-256-ccm\0"
+    "ARIA-128-GCM\0" "aria-128-gcm\0" "ARIA-192-GCM\0" "aria-192-gcm\0" "ARIA-256-GCM\0" "aria-256-gcm\0" "cmcCA\0"
+    "CMC Certificate Authority\0" "cmcRA\0" "CMC Registration Authority\0" "SM4-ECB\0" "sm4-ecb\0" "SM4-CBC\0"
+    "sm4-cbc\0" "SM4-OFB\0" "sm4-ofb\0" "SM4-CFB1\0" "sm4-cfb1\0" "SM4-CFB\0" "sm4-cfb\0" "SM4-CFB8\0" "sm4-cfb8\0"
+    "SM4-CTR\0" "sm4-ctr\0" "ISO-CN\0" "ISO CN Member Body\0" "oscca\0" "sm-scheme\0" "SM3\0" "sm3\0" "RSA-SM3\0",
+    "sm3WithRSAEncryption\0" "RSA-SHA512/224\0" "sha512-224WithRSAEncryption\0" "RSA-SHA512/256\0"
+    "sha512-256WithRSAEncryption\0" "id-tc26-gost-3410-2012-256-constants\0" "id-tc26-gost-3410-2012-256-paramSetA\0"
+    "GOST R 34.10-2012 (256 bit) ParamSet A\0" "id-tc26-gost-3410-2012-512-paramSetC\0"
+    "GOST R 34.10-2012 (512 bit) ParamSet C\0" "ISO-UA\0" "ua-pki\0" "dstu28147\0" "DSTU Gost 28147-2009\0"
+    "dstu28147-ofb\0" "DSTU Gost 28147-2009 OFB mode\0" "dstu28147-cfb\0" "DSTU Gost 28147-2009 CFB mode\0"
+    "dstu28147-wrap\0" "DSTU Gost 28147-2009 key wrap\0" "hmacWithDstu34311\0", "HMAC DSTU Gost 34311-95\0"
+    "dstu34311\0" "DSTU Gost 34311-95\0" "dstu4145le\0" "DSTU 4145-2002 little endian\0" "dstu4145be\0"
+    "DSTU 4145-2002 big endian\0" "uacurve0\0" "DSTU curve 0\0" "uacurve1\0" "DSTU curve 1\0" "uacurve2\0"
+    "DSTU curve 2\0" "uacurve3\0" "DSTU curve 3\0" "uacurve4\0" "DSTU curve 4\0" "uacurve5\0" "DSTU curve 5\0"
+    "uacurve6\0" "DSTU curve 6\0" "uacurve7\0" "DSTU curve 7\0" "uacurve8\0" "DSTU curve 8\0" "uacurve9\0"
+    "DSTU curve 9\0" "ieee\0" "ieee-siswg\0" "IEEE Security in Storage Working Group\0" "SM2\0" "sm2\0"
+    "id-tc26-cipher-gostr3412-2015-magma\0" "magma-ctr-acpkm\0" "magma-ctr-acpkm-omac\0",
+    "id-tc26-cipher-gostr3412-2015-kuznyechik\0" "kuznyechik-ctr-acpkm\0" "kuznyechik-ctr-acpkm-omac\0" "id-tc26-wrap\0"
+    "id-tc26-wrap-gostr3412-2015-magma\0" "magma-kexp15\0" "id-tc26-wrap-gostr3412-2015-kuznyechik\0"
+    "kuznyechik-kexp15\0" "id-tc26-gost-3410-2012-256-paramSetB\0" "GOST R 34.10-2012 (256 bit) ParamSet B\0"
+    "id-tc26-gost-3410-2012-256-paramSetC\0" "GOST R 34.10-2012 (256 bit) ParamSet C\0"
+    "id-tc26-gost-3410-2012-256-paramSetD\0" "GOST R 34.10-2012 (256 bit) ParamSet D\0" "hmacWithSHA512-224\0"
+    "hmacWithSHA512-256\0" "GMAC\0" "gmac\0" "KMAC128\0" "kmac128\0" "KMAC256\0", "kmac256\0" "BLAKE2BMAC\0"
+    "blake2bmac\0" "BLAKE2SMAC\0" "blake2smac\0" "SM2-SM3\0" "SM2-with-SM3\0" "id-on-SmtpUTF8Mailbox\0"
+    "Smtp UTF8 Mailbox\0" "id-on-xmppAddr\0" "XmppAddr\0" "id-on-dnsSRV\0" "SRVName\0" "id-on-NAIRealm\0" "NAIRealm\0"
+    "cmcArchive\0" "CMC Archive Server\0" "id-kp-bgpsec-router\0" "BGPsec Router\0"
+    "id-kp-BrandIndicatorforMessageIdentification\0" "Brand Indicator for Message Identification\0" "cmKGA\0"
+    "Certificate Management Key Generation Authority\0" "id-it-caCerts\0" "id-it-rootCaKeyUpdate\0"
+    "id-it-certReqTemplate\0" "OGRNIP\0" "classSignTool\0" "Class of Signing Tool\0" "classSignToolKC1\0",
+    "Class of Signing Tool KC1\0" "classSignToolKC2\0" "Class of Signing Tool KC2\0" "classSignToolKC3\0"
+    "Class of Signing Tool KC3\0" "classSignToolKB1\0" "Class of Signing Tool KB1\0" "classSignToolKB2\0"
+    "Class of Signing Tool KB2\0" "classSignToolKA1\0" "Class of Signing Tool KA1\0" "id-ct-routeOriginAuthz\0"
+    "id-ct-rpkiManifest\0" "id-ct-rpkiGhostbusters\0" "id-ct-resourceTaggedAttest\0" "sbgp-ipAddrBlockv2\0"
+    "sbgp-autonomousSysNumv2\0" "ipAddr-asNumber\0" "ipAddr-asNumberv2\0" "rpkiManifest\0" "RPKI Manifest\0"
+    "signedObject\0" "Signed Object\0" "rpkiNotify\0" "RPKI Notify\0", "id-ct-geofeedCSVwithCRLF\0"
+    "id-ct-signedChecklist\0" "ucdavis\0" "prTable\0" "prEntry\0" "prIndex\0" "prNames\0" "prMin\0" "prMax\0"
+    "prCount\0" "prErrorFlag\0" "prErrMessage\0" "prErrFix\0" "prErrFixCmd\0" "memory\0" "memIndex\0" "memErrorName\0"
+    "memTotalSwap\0" "memAvailSwap\0" "memTotalReal\0" "memAvailReal\0" "memTotalSwapTXT\0" "memAvailSwapTXT\0"
+    "memTotalRealTXT\0" "memAvailRealTXT\0" "memTotalFree\0" "memMinimumSwap\0" "memShared\0" "memBuffer\0"
+    "memCached\0" "memUsedSwapTXT\0" "memUsedRealTXT\0" "memTotalSwapX\0" "memAvailSwapX\0" "memTotalRealX\0"
+    "memAvailRealX\0" "memTotalFreeX\0" "memMinimumSwapX\0" "memSharedX\0" "memBufferX\0" "memCachedX\0",
+    "memSysAvail\0" "memSwapError\0" "memSwapErrorMsg\0" "extTable\0" "extEntry\0" "extIndex\0" "extNames\0"
+    "extCommand\0" "extResult\0" "extOutput\0" "extErrFix\0" "extErrFixCmd\0" "dskTable\0" "dskEntry\0" "dskIndex\0"
+    "dskPath\0" "dskDevice\0" "dskMinimum\0" "dskMinPercent\0" "dskTotal\0" "dskAvail\0" "dskUsed\0" "dskPercent\0"
+    "dskPercentNode\0" "dskTotalLow\0" "dskTotalHigh\0" "dskAvailLow\0" "dskAvailHigh\0" "dskUsedLow\0" "dskUsedHigh\0"
+    "dskErrorFlag\0" "dskErrorMsg\0" "laTable\0" "laEntry\0" "laIndex\0" "laNames\0" "laLoad\0" "laConfig\0"
+    "laLoadInt\0" "laLoadFloat\0" "laErrorFlag\0" "laErrMessage\0" "systemStats\0" "ssIndex\0" "ssErrorName\0"
+    "ssSwapIn\0" "ssSwapOut\0" "ssIOSent\0", "ssIOReceive\0" "ssSysInterrupts\0" "ssSysContext\0" "ssCpuUser\0"
+    "ssCpuSystem\0" "ssCpuIdle\0" "ssCpuRawUser\0" "ssCpuRawNice\0" "ssCpuRawSystem\0" "ssCpuRawIdle\0" "ssCpuRawWait\0"
+    "ssCpuRawKernel\0" "ssCpuRawInterrupt\0" "ssIORawSent\0" "ssIORawReceived\0" "ssRawInterrupts\0" "ssRawContexts\0"
+    "ssCpuRawSoftIRQ\0" "ssRawSwapIn\0" "ssRawSwapOut\0" "ssCpuRawSteal\0" "ssCpuRawGuest\0" "ssCpuRawGuestNice\0"
+    "ssCpuNumCpus\0" "ucdInternal\0" "ucdExperimental\0" "ucdIpFwAccMIB\0" "ipFwAccTable\0" "ipFwAccEntry\0"
+    "ipFwAccIndex\0" "ipFwAccSrcAddr\0" "ipFwAccSrcNetMask\0" "ipFwAccDstAddr\0" "ipFwAccDstNetMask\0"
+    "ipFwAccViaName\0" "ipFwAccViaAddr\0", "ipFwAccProto\0" "ipFwAccBidir\0" "ipFwAccDir\0" "ipFwAccBytes\0"
+    "ipFwAccPackets\0" "ipFwAccNrSrcPorts\0" "ipFwAccNrDstPorts\0" "ipFwAccSrcIsRange\0" "ipFwAccDstIsRange\0"
+    "ipFwAccPort1\0" "ipFwAccPort2\0" "ipFwAccPort3\0" "ipFwAccPort4\0" "ipFwAccPort5\0" "ipFwAccPort6\0"
+    "ipFwAccPort7\0" "ipFwAccPort8\0" "ipFwAccPort9\0" "ipFwAccPort10\0" "ucdDlmodMIB\0" "dlmodNextIndex\0"
+    "dlmodTable\0" "dlmodEntry\0" "dlmodIndex\0" "dlmodName\0" "dlmodPath\0" "dlmodError\0" "dlmodStatus\0"
+    "ucdDiskIOMIB\0" "diskIOTable\0" "diskIOEntry\0" "diskIOIndex\0" "diskIODevice\0" "diskIONRead\0" "diskIONWritten\0"
+    "diskIOReads\0" "diskIOWrites\0" "diskIOLA1\0" "diskIOLA5\0", "diskIOLA15\0" "diskIONReadX\0" "diskIONWrittenX\0"
+    "diskIOBusyTime\0" "lmSensors\0" "lmSensorsMIB\0" "lmTempSensorsTable\0" "lmTempSensorsEntry\0"
+    "lmTempSensorsIndex\0" "lmTempSensorsDevice\0" "lmTempSensorsValue\0" "lmFanSensorsTable\0" "lmFanSensorsEntry\0"
+    "lmFanSensorsIndex\0" "lmFanSensorsDevice\0" "lmFanSensorsValue\0" "lmVoltSensorsTable\0" "lmVoltSensorsEntry\0"
+    "lmVoltSensorsIndex\0" "lmVoltSensorsDevice\0" "lmVoltSensorsValue\0" "lmMiscSensorsTable\0" "lmMiscSensorsEntry\0"
+    "lmMiscSensorsIndex\0" "lmMiscSensorsDevice\0" "lmMiscSensorsValue\0" "ucdDemoMIB\0" "ucdDemoMIBObjects\0"
+    "ucdDemoPublic\0", "ucdDemoResetKeys\0" "ucdDemoPublicString\0" "ucdDemoUserList\0" "ucdDemoPassphrase\0"
+    "fileTable\0" "fileEntry\0" "fileIndex\0" "fileName\0" "fileSize\0" "fileMax\0" "fileErrorFlag\0" "fileErrorMsg\0"
+    "logMatch\0" "logMatchMaxEntries\0" "logMatchTable\0" "logMatchEntry\0" "logMatchIndex\0" "logMatchName\0"
+    "logMatchFilename\0" "logMatchRegEx\0" "logMatchGlobalCounter\0" "logMatchGlobalCount\0" "logMatchCurrentCounter\0"
+    "logMatchCurrentCount\0" "logMatchCounter\0" "logMatchCount\0" "logMatchCycle\0" "logMatchErrorFlag\0"
+    "logMatchRegExCompilation\0" "version\0" "versionIndex\0" "versionTag\0" "versionDate\0" "versionCDate\0",
+    "versionIdent\0" "versionConfigureOptions\0" "versionClearCache\0" "versionUpdateConfig\0" "versionRestartAgent\0"
+    "versionSavePersistentData\0" "versionDoDebugging\0" "snmperrs\0" "snmperrIndex\0" "snmperrNames\0"
+    "snmperrErrorFlag\0" "snmperrErrMessage\0" "mrTable\0" "mrEntry\0" "mrIndex\0" "mrModuleName\0" "ucdSnmpAgent\0"
+    "netbsd1\0" "ucdTraps\0" "ucdStart\0" "ucdShutdown\0" "netSnmp\0" "netSnmpObjects\0" "nsVersion\0" "nsMibRegistry\0"
+    "nsModuleTable\0" "nsModuleEntry\0" "nsmContextName\0" "nsmRegistrationPoint\0" "nsmRegistrationPriority\0"
+    "nsModuleName\0" "nsModuleModes\0" "nsModuleTimeout\0" "nsExtensions\0" "netSnmpExtendMIB\0", "nsExtendObjects\0"
+    "nsExtendNumEntries\0" "nsExtendConfigTable\0" "nsExtendConfigEntry\0" "nsExtendToken\0" "nsExtendCommand\0"
+    "nsExtendArgs\0" "nsExtendInput\0" "nsExtendCacheTime\0" "nsExtendExecType\0" "nsExtendRunType\0"
+    "nsExtendStorage\0" "nsExtendStatus\0" "nsExtendOutput1Table\0" "nsExtendOutput1Entry\0" "nsExtendOutput1Line\0"
+    "nsExtendOutputFull\0" "nsExtendOutNumLines\0" "nsExtendResult\0" "nsExtendOutput2Table\0" "nsExtendOutput2Entry\0"
+    "nsExtendLineIndex\0" "nsExtendOutLine\0" "nsExtendGroups\0" "nsExtendConfigGroup\0" "nsExtendOutputGroup\0"
+    "nsDLMod\0" "nsCache\0" "nsCacheDefaultTimeout\0", "nsCacheEnabled\0" "nsCacheTable\0" "nsCacheEntry\0"
+    "nsCachedOID\0" "nsCacheTimeout\0" "nsCacheStatus\0" "nsErrorHistory\0" "nsConfiguration\0" "nsConfigDebug\0"
+    "nsDebugEnabled\0" "nsDebugOutputAll\0" "nsDebugDumpPdu\0" "nsDebugTokenTable\0" "nsDebugTokenEntry\0"
+    "nsDebugTokenPrefix\0" "nsDebugTokenStatus\0" "nsConfigLogging\0" "nsLoggingTable\0" "nsLoggingEntry\0"
+    "nsLogLevel\0" "nsLogToken\0" "nsLogType\0" "nsLogMaxLevel\0" "nsLogStatus\0" "nsTransactions\0"
+    "nsTransactionTable\0" "nsTransactionEntry\0" "nsTransactionID\0" "nsTransactionMode\0" "netSnmpVacmMIB\0"
+    "nsVacmAccessTable\0" "nsVacmAccessEntry\0" "nsVacmAuthType\0", "nsVacmContextMatch\0" "nsVacmViewName\0"
+    "nsVacmStorageType\0" "nsVacmStatus\0" "netSnmpExamples\0" "netSnmpExampleScalars\0" "netSnmpExampleInteger\0"
+    "netSnmpExampleSleeper\0" "netSnmpExampleString\0" "netSnmpExampleTables\0" "netSnmpIETFWGTable\0"
+    "netSnmpIETFWGEntry\0" "nsIETFWGName\0" "nsIETFWGChair1\0" "nsIETFWGChair2\0" "netSnmpHostsTable\0"
+    "netSnmpHostsEntry\0" "netSnmpHostName\0" "netSnmpHostAddressType\0" "netSnmpHostAddress\0" "netSnmpHostStorage\0"
+    "netSnmpHostRowStatus\0" "netSnmpExampleNotifications\0" "netSnmpExampleNotificationPrefix\0"
+    "netSnmpExampleHeartbeatNotification\0", "netSnmpExampleNotification\0" "netSnmpExampleNotificationObjects\0"
+    "netSnmpExampleHeartbeatRate\0" "netSnmpExampleHeartbeatName\0" "netSnmpPassExamples\0" "netSnmpPassString\0"
+    "netSnmpPassTable\0" "netSnmpPassEntry\0" "netSnmpPassIndex\0" "netSnmpPassInteger\0" "netSnmpPassOID\0"
+    "netSnmpPassTimeTicks\0" "netSnmpPassIpAddress\0" "netSnmpPassCounter\0" "netSnmpPassGauge\0"
+    "netSnmpPassCounter64\0" "netSnmpPassInteger64\0" "netSnmpPassOIDValue\0" "netSnmpEnumerations\0"
+    "netSnmpModuleIDs\0" "netSnmpTCs\0" "netSnmpAgentMIB\0" "netSnmpAgentOIDs\0" "netbsd\0" "netSnmpDomains\0"
+    "netSnmpTCPDomain\0", "netSnmpUnixDomain\0" "netSnmpAAL5PVCDomain\0" "netSnmpUDPIPv6Domain\0"
+    "netSnmpTCPIPv6Domain\0" "netSnmpCallbackDomain\0" "netSnmpAliasDomain\0" "netSnmpDTLSUDPDomain\0"
+    "netSnmpDTLSSCTPDomain\0" "netSnmpTLSTCPDomain\0" "netSnmpNotificationPrefix\0" "netSnmpNotifications\0"
+    "nsNotifyStart\0" "nsNotifyShutdown\0" "nsNotifyRestart\0" "netSnmpNotificationObjects\0" "netSnmpConformance\0"
+    "netSnmpCompliances\0" "netSnmpGroups\0" "nsModuleGroup\0" "nsCacheGroup\0" "nsConfigGroups\0" "nsDebugGroup\0"
+    "nsLoggingGroup\0" "nsTransactionGroup\0" "nsAgentNotifyGroup\0" "netSnmpExperimental\0" "netSnmpPlaypen\0",
+    "ac-auditIdentity\0" "X509v3 Audit Identity\0" "SM4-GCM\0" "sm4-gcm\0" "SM4-CCM\0" "sm4-ccm\0" "id-ct-ASPA\0"
+    "id-mod-cmp2000-02\0" "id-mod-cmp2021-88\0" "id-mod-cmp2021-02\0" "id-it-rootCaCert\0" "id-it-certProfile\0"
+    "id-it-crlStatusList\0" "id-it-crls\0" "id-regCtrl-altCertTemplate\0" "id-regCtrl-algId\0" "id-regCtrl-rsaKeyLen\0"
+    "id-aa-ets-attrCertificateRefs\0" "id-aa-ets-attrRevocationRefs\0" "id-aa-CMSAlgorithmProtection\0"
+    "itu-t-identified-organization\0" "etsi\0" "electronic-signature-standard\0" "ess-attributes\0"
+    "id-aa-ets-mimeType\0" "id-aa-ets-longTermValidation\0", "id-aa-ets-SignaturePolicyDocument\0"
+    "id-aa-ets-archiveTimestampV3\0" "id-aa-ATSHashIndex\0" "cades\0" "cades-attributes\0" "id-aa-ets-signerAttrV2\0"
+    "id-aa-ets-sigPolicyStore\0" "id-aa-ATSHashIndex-v2\0" "id-aa-ATSHashIndex-v3\0" "signedAssertion\0"
+    "id-aa-ets-archiveTimestampV2\0" "hmacWithSM3\0" "oracle-organization\0" "Oracle organization\0"
+    "oracle-jdk-trustedkeyusage\0" "Trusted key usage (Oracle)\0" "id-ct-signedTAL\0" "SM4-XTS\0" "sm4-xts\0"
+    "ms-ntds-obj-sid\0" "Microsoft NTDS AD objectSid\0" "ms-ntds-sec-ext\0" "Microsoft NTDS CA Extension\0"
+    "ms-cert-templ\0", "Microsoft certificate template\0" "ms-app-policies\0"
+    "Microsoft Application Policies Extension\0" "authorityAttributeIdentifier\0"
+    "X509v3 Authority Attribute Identifier\0" "roleSpecCertIdentifier\0"
+    "X509v3 Role Specification Certificate Identifier\0" "basicAttConstraints\0"
+    "X509v3 Basic Attribute Certificate Constraints\0" "delegatedNameConstraints\0"
+    "X509v3 Delegated Name Constraints\0" "timeSpecification\0" "X509v3 Time Specification\0" "attributeDescriptor\0"
+    "X509v3 Attribute Descriptor\0" "userNotice\0" "X509v3 User Notice\0" "sOAIdentifier\0",
+    "X509v3 Source of Authority Identifier\0" "acceptableCertPolicies\0" "X509v3 Acceptable Certification Policies\0"
+    "acceptablePrivPolicies\0" "X509v3 Acceptable Privilege Policies\0" "indirectIssuer\0" "X509v3 Indirect Issuer\0"
+    "noAssertion\0" "X509v3 No Assertion\0" "aAissuingDistributionPoint\0"
+    "X509v3 Attribute Authority Issuing Distribution Point\0" "issuedOnBehalfOf\0" "X509v3 Issued On Behalf Of\0"
+    "singleUse\0" "X509v3 Single Use\0" "groupAC\0" "X509v3 Group Attribute Certificate\0"
+    "allowedAttributeAssignments\0" "X509v3 Allowed Attribute Assignments\0", "attributeMappings\0"
+    "X509v3 Attribute Mappings\0" "holderNameConstraints\0" "X509v3 Holder Name Constraints\0"
+    "authorizationValidation\0" "X509v3 Authorization Validation\0" "protRestrict\0" "X509v3 Protocol Restriction\0"
+    "subjectAltPublicKeyInfo\0" "X509v3 Subject Alternative Public Key Info\0" "altSignatureAlgorithm\0"
+    "X509v3 Alternative Signature Algorithm\0" "altSignatureValue\0" "X509v3 Alternative Signature Value\0"
+    "associatedInformation\0" "X509v3 Associated Information\0" "id-ct-rpkiSignedPrefixList\0" "Hardware Module Name\0"
+    "id-kp-wisun-fan-device\0", "Wi-SUN Alliance Field Area Network (FAN)\0" "tcg\0" "Trusted Computing Group\0"
+    "Trusted Computing Group Attributes\0" "Trusted Computing Group Protocols\0" "Trusted Computing Group Algorithms\0"
+    "tcg-platformClass\0" "Trusted Computing Group Platform Classes\0"
+    "Trusted Computing Group Certificate Extensions\0" "Trusted Computing Group Key Purposes\0" "tcg-ca\0"
+    "Trusted Computing Group Certificate Policies\0" "tcg-address\0" "Trusted Computing Group Address Formats\0"
+    "tcg-registry\0" "Trusted Computing Group Registry\0" "tcg-traits\0" "Trusted Computing Group Traits\0",
+    "tcg-common\0" "Trusted Computing Group Common\0" "tcg-at-platformManufacturerStr\0"
+    "TCG Platform Manufacturer String\0" "tcg-at-platformManufacturerId\0" "TCG Platform Manufacturer ID\0"
+    "tcg-at-platformConfigUri\0" "TCG Platform Configuration URI\0" "tcg-at-platformModel\0" "TCG Platform Model\0"
+    "tcg-at-platformVersion\0" "TCG Platform Version\0" "tcg-at-platformSerial\0" "TCG Platform Serial Number\0"
+    "tcg-at-platformConfiguration\0" "TCG Platform Configuration\0" "tcg-at-platformIdentifier\0"
+    "TCG Platform Identifier\0" "TPM Manufacturer\0" "TPM Model\0" "TPM Version\0", "Security Qualities\0"
+    "TPM Protection Profile\0" "TPM Security Target\0" "TBB Protection Profile\0" "TBB Security Target\0"
+    "TPM ID Label\0" "TPM Specification\0" "TPM Platform Specification\0" "TPM Security Assertions\0"
+    "TBB Security Assertions\0" "tcg-at-tcgCredentialSpecification\0" "TCG Credential Specification\0"
+    "tcg-at-tcgCredentialType\0" "TCG Credential Type\0" "tcg-at-previousPlatformCertificates\0"
+    "TCG Previous Platform Certificates\0" "tcg-at-tbbSecurityAssertions-v3\0" "TCG TBB Security Assertions V3\0"
+    "tcg-at-cryptographicAnchors\0" "TCG Cryptographic Anchors\0", "tcg-at-platformConfiguration-v1\0"
+    "Platform Configuration Version 1\0" "tcg-at-platformConfiguration-v2\0" "Platform Configuration Version 2\0"
+    "tcg-at-platformConfiguration-v3\0" "Platform Configuration Version 3\0" "tcg-at-platformConfigUri-v3\0"
+    "Platform Configuration URI Version 3\0" "TCG NULL Algorithm\0" "Endorsement Key Certificate\0"
+    "tcg-kp-PlatformAttributeCertificate\0" "Platform Attribute Certificate\0" "Attestation Identity Key Certificate\0"
+    "tcg-kp-PlatformKeyCertificate\0" "Platform Key Certificate\0" "tcg-kp-DeltaPlatformAttributeCertificate\0",
+    "Delta Platform Attribute Certificate\0" "tcg-kp-DeltaPlatformKeyCertificate\0" "Delta Platform Key Certificate\0"
+    "tcg-kp-AdditionalPlatformAttributeCertificate\0" "Additional Platform Attribute Certificate\0"
+    "tcg-kp-AdditionalPlatformKeyCertificate\0" "Additional Platform Key Certificate\0" "Relevant Credentials\0"
+    "Relevant Manifests\0" "Virtual Platform Attestation Service\0" "Migration Controller Attestation Service\0"
+    "Migration Controller Registration Service\0" "Virtual Platform Backup Service\0" "TCG TPM Protocol\0"
+    "tcg-address-ethernetmac\0", "Ethernet MAC Address\0" "tcg-address-wlanmac\0" "WLAN MAC Address\0"
+    "tcg-address-bluetoothmac\0" "Bluetooth MAC Address\0" "tcg-registry-componentClass\0" "TCG Component Class\0"
+    "tcg-registry-componentClass-tcg\0" "Trusted Computed Group Registry\0" "tcg-registry-componentClass-ietf\0"
+    "Internet Engineering Task Force Registry\0" "tcg-registry-componentClass-dmtf\0"
+    "Distributed Management Task Force Registry\0" "tcg-registry-componentClass-pcie\0" "PCIE Component Class\0"
+    "tcg-registry-componentClass-disk\0" "Disk Component Class\0", "tcg-cap-verifiedPlatformCertificate\0"
+    "TCG Verified Platform Certificate CA Policy\0" "tcg-tr-ID\0" "TCG Trait Identifiers\0" "tcg-tr-category\0"
+    "TCG Trait Categories\0" "tcg-tr-registry\0" "TCG Trait Registries\0" "tcg-tr-ID-Boolean\0" "Boolean Trait\0"
+    "tcg-tr-ID-CertificateIdentifier\0" "Certificate Identifier Trait\0" "tcg-tr-ID-CommonCriteria\0"
+    "Common Criteria Trait\0" "tcg-tr-ID-componentClass\0" "Component Class Trait\0"
+    "tcg-tr-ID-componentIdentifierV11\0" "Component Identifier V1.1 Trait\0" "tcg-tr-ID-FIPSLevel\0"
+    "FIPS Level Trait\0" "tcg-tr-ID-ISO9000Level\0", "ISO 9000 Level Trait\0" "tcg-tr-ID-networkMAC\0"
+    "Network MAC Trait\0" "tcg-tr-ID-OID\0" "Object Identifier Trait\0" "tcg-tr-ID-PEN\0"
+    "Private Enterprise Number Trait\0" "tcg-tr-ID-platformFirmwareCapabilities\0"
+    "Platform Firmware Capabilities Trait\0" "tcg-tr-ID-platformFirmwareSignatureVerification\0"
+    "Platform Firmware Signature Verification Trait\0" "tcg-tr-ID-platformFirmwareUpdateCompliance\0"
+    "Platform Firmware Update Compliance Trait\0" "tcg-tr-ID-platformHardwareCapabilities\0"
+    "Platform Hardware Capabilities Trait\0" "tcg-tr-ID-RTM\0", "Root of Trust for Measurement Trait\0"
+    "tcg-tr-ID-status\0" "Attribute Status Trait\0" "tcg-tr-ID-URI\0" "Uniform Resource Identifier Trait\0"
+    "tcg-tr-ID-UTF8String\0" "UTF8String Trait\0" "tcg-tr-ID-IA5String\0" "IA5String Trait\0"
+    "tcg-tr-ID-PEMCertString\0" "PEM-Encoded Certificate String Trait\0" "tcg-tr-ID-PublicKey\0" "Public Key Trait\0"
+    "tcg-tr-cat-platformManufacturer\0" "Platform Manufacturer Trait Category\0" "tcg-tr-cat-platformModel\0"
+    "Platform Model Trait Category\0" "tcg-tr-cat-platformVersion\0" "Platform Version Trait Category\0"
+    "tcg-tr-cat-platformSerial\0", "Platform Serial Trait Category\0" "tcg-tr-cat-platformManufacturerIdentifier\0"
+    "Platform Manufacturer Identifier Trait Category\0" "tcg-tr-cat-platformOwnership\0"
+    "Platform Ownership Trait Category\0" "tcg-tr-cat-componentClass\0" "Component Class Trait Category\0"
+    "tcg-tr-cat-componentManufacturer\0" "Component Manufacturer Trait Category\0" "tcg-tr-cat-componentModel\0"
+    "Component Model Trait Category\0" "tcg-tr-cat-componentSerial\0" "Component Serial Trait Category\0"
+    "tcg-tr-cat-componentStatus\0" "Component Status Trait Category\0", "tcg-tr-cat-componentLocation\0"
+    "Component Location Trait Category\0" "tcg-tr-cat-componentRevision\0" "Component Revision Trait Category\0"
+    "tcg-tr-cat-componentFieldReplaceable\0" "Component Field Replaceable Trait Category\0" "tcg-tr-cat-EKCertificate\0"
+    "EK Certificate Trait Category\0" "tcg-tr-cat-IAKCertificate\0" "IAK Certificate Trait Category\0"
+    "tcg-tr-cat-IDevIDCertificate\0" "IDevID Certificate Trait Category\0" "tcg-tr-cat-DICECertificate\0"
+    "DICE Certificate Trait Category\0" "tcg-tr-cat-SPDMCertificate\0" "SPDM Certificate Trait Category\0",
+    "tcg-tr-cat-PEMCertificate\0" "PEM Certificate Trait Category\0" "tcg-tr-cat-PlatformCertificate\0"
+    "Platform Certificate Trait Category\0" "tcg-tr-cat-DeltaPlatformCertificate\0"
+    "Delta Platform Certificate Trait Category\0" "tcg-tr-cat-RebasePlatformCertificate\0"
+    "Rebase Platform Certificate Trait Category\0" "tcg-tr-cat-genericCertificate\0"
+    "Generic Certificate Trait Category\0" "tcg-tr-cat-CommonCriteria\0" "Common Criteria Trait Category\0"
+    "tcg-tr-cat-componentIdentifierV11\0" "Component Identifier V1.1 Trait Category\0" "tcg-tr-cat-FIPSLevel\0",
+    "FIPS Level Trait Category\0" "tcg-tr-cat-ISO9000\0" "ISO 9000 Trait Category\0" "tcg-tr-cat-networkMAC\0"
+    "Network MAC Trait Category\0" "tcg-tr-cat-attestationProtocol\0" "Attestation Protocol Trait Category\0"
+    "tcg-tr-cat-PEN\0" "Private Enterprise Number Trait Category\0" "tcg-tr-cat-platformFirmwareCapabilities\0"
+    "Platform Firmware Capabilities Trait Category\0" "tcg-tr-cat-platformHardwareCapabilities\0"
+    "Platform Hardware Capabilities Trait Category\0" "tcg-tr-cat-platformFirmwareSignatureVerification\0",
+    "Platform Firmware Signature Verification Trait Category\0" "tcg-tr-cat-platformFirmwareUpdateCompliance\0"
+    "Platform Firmware Update Compliance Trait Category\0" "tcg-tr-cat-RTM\0"
+    "Root of Trust of Measurement Trait Category\0" "tcg-tr-cat-PublicKey\0" "Public Key Trait Category\0"
+    "HASH-ML-DSA-44-WITH-SHA512\0" "HASH-ML-DSA-65-WITH-SHA512\0" "HASH-ML-DSA-87-WITH-SHA512\0"
+    "SLH-DSA-SHA2-128s-WITH-SHA256\0" "SLH-DSA-SHA2-128f-WITH-SHA256\0" "SLH-DSA-SHA2-192s-WITH-SHA512\0"
+    "SLH-DSA-SHA2-192f-WITH-SHA512\0" "SLH-DSA-SHA2-256s-WITH-SHA512\0", "SLH-DSA-SHA2-256f-WITH-SHA512\0"
+    "SLH-DSA-SHAKE-128s-WITH-SHAKE128\0" "SLH-DSA-SHAKE-128f-WITH-SHAKE128\0" "SLH-DSA-SHAKE-192s-WITH-SHAKE256\0"
+    "SLH-DSA-SHAKE-192f-WITH-SHAKE256\0" "SLH-DSA-SHAKE-256s-WITH-SHAKE256\0" "SLH-DSA-SHAKE-256f-WITH-SHAKE256\0"
+    "id-alg-hkdf-with-sha256\0" "HKDF-SHA256\0" "id-alg-hkdf-with-sha384\0" "HKDF-SHA384\0" "id-alg-hkdf-with-sha512\0"
+    "HKDF-SHA512\0" "id-smime-ori\0" "id-smime-ori-kem\0" "SHA2-512/256\0" "SHA2-224\0" "SSL3-SHA1\0" "RIPEMD\0"
+    "RIPEMD-160\0" "RMD160\0" "SHA2-512\0" "SHA2-512/224\0" "SHAKE-256\0" "SHA2-384\0" "SSL3-MD5\0" "BLAKE2S-256\0"
+    "SHA2-256\0" "BLAKE2B-512\0", "SHAKE-128\0" "AES128\0" "CAMELLIA128\0" "CAMELLIA256\0" "AES256\0"
+    "AES-192-WRAP-PAD\0" "AES192-WRAP-PAD\0" "AES-128-WRAP-PAD\0" "AES128-WRAP-PAD\0" "DES3-WRAP\0" "AES-256-WRAP-PAD\0"
+    "AES256-WRAP-PAD\0" "SM4-OFB128\0" "AES-192-WRAP\0" "AES192-WRAP\0" "ARIA128\0" "SM4-CFB128\0" "ARIA192\0"
+    "AES-256-WRAP\0" "AES256-WRAP\0" "SM4\0" "AES192\0" "ARIA256\0" "DES-EDE-ECB\0" "AES-128-WRAP\0" "AES128-WRAP\0"
+    "DES3\0" "CAMELLIA192\0" "KMAC-128\0" "KMAC-256\0" "DH\0" "DSA-SHA-1\0" "DSA-SHA2-224\0" "DSA-SHA224\0"
+    "DSA-SHA2-256\0" "DSA-SHA256\0" "DSA-SHA2-384\0" "DSA-SHA384\0" "DSA-SHA2-512\0" "DSA-SHA512\0" "DSA-SHA3-224\0"
+    "DSA-SHA3-256\0" "DSA-SHA3-384\0" "DSA-SHA3-512\0" "RSA-SHA-1\0", "RSA-SHA2-224\0" "RSA-SHA2-256\0" "RSA-SHA2-384\0"
+    "RSA-SHA2-512\0" "RSA-SHA2-512/224\0" "RSA-SHA512-224\0" "RSA-SHA2-512/256\0" "RSA-SHA512-256\0" "ECDSA-SHA-1\0"
+    "ECDSA-SHA1\0" "ECDSA-SHA2-224\0" "ECDSA-SHA224\0" "ECDSA-SHA2-256\0" "ECDSA-SHA256\0" "ECDSA-SHA2-384\0"
+    "ECDSA-SHA384\0" "ECDSA-SHA2-512\0" "ECDSA-SHA512\0" "ECDSA-SHA3-224\0" "ECDSA-SHA3-256\0" "ECDSA-SHA3-384\0"
+    "ECDSA-SHA3-512\0" "MLDSA44\0" "MLDSA65\0" "MLDSA87\0" "EC\0" "MLKEM512\0" "MLKEM768\0" "MLKEM1024\0" "RSA-PSS\0"
+    "DHX\0" "pkcs-7\0" "signedData\0" "envelopedData\0" "signedAndEnvelopedData\0" "digestedData\0" "encryptedData\0"
+    "AuthenticatedData\0" "ContentInfo\0" "authData\0", "AuthEnvelopedData\0" "CompressedData\0" "TSTInfo\0"
+    "timeStampToken\0" "receiptRequest\0" "receipt\0" "securityLabel\0" "mlExpandHistory\0" "contentHint\0"
+    "msgSigDigest\0" "contentIdentifier\0" "equivalentLabels\0" "contentReference\0" "signingCertificate\0"
+    "signingCertificateV2\0" "encrypKeyPref\0" "cmsAlgorithmProtect\0" "firmwarePackage\0"
+    "SignedCertificateTimestampList\0" "must-staple\0" "nistp256\0" "nistp384\0" "nistp521\0" "HS256\0" "HS384\0"
+    "HS512\0" "RS256\0" "RS384\0" "RS512\0" "ES256\0" "ES384\0" "ES512\0" "RSA1_5\0" "RSA-OAEP\0" "ECDH-ES\0" "A128KW\0"
+    "A192KW\0" "A256KW\0" "A128GCM\0" "A192GCM\0" "A256GCM\0" "krb5\0" "gss_mech_krb5\0", "GSS_KRB5_NT_PRINCIPAL_NAME\0"
+    "GSS_C_NT_USER_NAME\0" "GSS_C_NT_MACHINE_UID_NAME\0" "GSS_C_NT_STRING_UID_NAME\0" "GSS_C_NT_HOSTBASED_SERVICE\0"
+    "GSS_KRB5_NT_USER_NAME\0" "GSS_KRB5_NT_HOSTBASED_SERVICE_NAME\0" "gssapi\0" "GSS_C_NT_ANONYMOUS\0"
+    "GSS_C_NT_EXPORT_NAME\0" "kerberosV5\0" "id-krb5\0" "id-pkinit-san\0" "id-pkinit-authData\0" "id-pkinit-DHKeyData\0"
+    "id-pkinit-rkeyData\0" "id-pkinit-KPClientAuth\0" "id-pkinit-KPKdc\0" "id-pkinit-kdf\0" "id-pkinit-kdf-ah-sha1\0"
+    "id-pkinit-kdf-ah-sha256\0" "id-pkinit-kdf-ah-sha512\0" "id-pkinit-kdf-ah-sha384\0" "SPNEGO\0" "snego\0" "LIPKEY\0"
+    "SPKM-3\0" "StartTLS\0", "smime-organization-validated\0" "smime-individual-validated\0"
+    "cabf-TorServiceDescriptor\0" "test-certificate\0" "certificate-extensions\0" "cabf-organization-identifier\0"
+    "cabfOrganizationIdentifier\0" "cabf-caSigningNonce\0" "cabf-applicantSigningNonce\0" "gss_mech_krb5_old\0"
+    "gss_mech_krb5_wrong\0" "gss_mech_iakerb\0" "GSS_KRB5_NT_ENTERPRISE_NAME\0" "GSS_KRB5_NT_X509_CERT\0"
+    "id-pkinit-ms-eku\0" "id-pkinit-ms-san\0" "id-at-name\0" "id-at-givenName\0" "id-at-initials\0"
+    "id-at-generationQualifier\0" "id-at-commonName\0" "id-at-localityName\0" "id-at-stateOrProvinceName\0",
+    "id-at-organizationName\0" "id-at-organizationalUnitName\0" "id-at-title\0" "id-at-dnQualifier\0"
+    "id-at-countryName\0" "id-dsa-with-sha1\0" "id-kp-ipsecEndSystem\0" "id-kp-ipsecTunnel\0" "id-kp-ipsecUser\0"
+    "id-at-pseudonym\0" "id-at-serialNumber\0" "id-IDEA-CBC\0" "id-alg-CMSIDEAwrap\0" "id-domainComponent\0"
+    "id-at-surname\0" "id-emailAddress\0" "dh-public-number\0" "rc2CBC\0" "id-camellia128-cbc\0" "id-camellia192-cbc\0"
+    "id-camellia256-cbc\0" "id-pe-logotype\0" "id-pe-biometricInfo\0" "id-pe-qcStatements\0" "id-qcs-pkixQCSyntax-v2\0"
+    "id-kp-eapOverLAN\0" "id-kp-eapOverPPP\0" "id-pe-wlanSSID\0", "id-pe-ipAddrBlocks\0" "id-pe-autonomousSysIds\0"
+    "id-pe-proxyCertInfo\0" "id-seedCBC\0" "id-ad-http-certs\0" "id-ad-http-crls\0" "id-on-SIM\0"
+    "id-aa-ets-otherSigCert\0" "id-aa-ets-sigPolicyId\0" "id-aa-ets-commitmentType\0" "id-aa-ets-signerLocation\0"
+    "id-aa-signatureTimeStampToken\0" "id-aa-ets-contentTimestamp\0" "id-aa-ets-signerAttr\0"
+    "id-aa-ets-certificateRefs\0" "id-aa-ets-revocationRefs\0" "id-aa-ets-certValues\0" "id-aa-ets-revocationValues\0"
+    "id-aa-ets-escTimeStamp\0" "id-aa-ets-certCRLTimestamp\0" "id-dsa-with-sha224\0" "id-dsa-with-sha256\0"
+    "secp192r1\0" "id-ct-trustAnchorList\0", "id-kp-sipDomain\0" "id-ri-ocsp-response\0" "id-ri-scvp\0" "id-rsa-kem\0"
+    "id-kem-rsa\0" "id-kp-secureShellClient\0" "id-kp-secureShellServer\0" "id-aa-cmsAlgorithmProtect\0" "id-kp-cmcCA\0"
+    "id-kp-cmcRA\0" "id-kp-cmcArchive\0" "id-ad-cmc\0" "id-ad-rpkiManifest\0" "id-ad-signedObject\0"
+    "id-dh-sig-hmac-sha1\0" "id-dhPop-static-sha1-hmac-sha1\0" "id-aa-asymmDecryptKeyID\0" "id-keyBag\0"
+    "id-pkcs8ShroudedKeyBag\0" "id-certBag\0" "id-CRLBag\0" "id-secretBag\0" "id-safeContentsBag\0"
+    "id-aa-secureHeaderFieldsIdentifier\0" "id-pe-tlsfeature\0" "id-aa-otpChallenge\0" "id-aa-revocationChallenge\0",
+    "id-aa-estIdentityLinking\0" "id-at-userCertificate\0" "id-at-pkiPath\0" "id-sha512-224\0" "id-sha512-256\0"
+    "pkcs-5\0" "id-hmacWithSHA1\0" "id-hmacWithSHA512-224\0" "id-hmacWithSHA512-256\0" "desCBC\0" "rc5-CBC-PAD\0"
+    "aes128-CBC-PAD\0" "aes192-CBC-PAD\0" "aes256-CBC-PAD\0" "id-PBES2\0" "id-PBMAC1\0" "id-alg-AEADChaCha20Poly1305\0"
+    "id-pe-TNAuthList\0" "id-ad-stirTNList\0" "id-ct-pdf\0" "id-pe-ipAddrBlocks-v2\0" "id-pe-autonomousSysIds-v2\0"
+    "id-shake256-len\0" "id-pe-mud-url\0" "id-ct-mudtype\0" "id-RSASSA-PSS-SHAKE128\0" "id-RSASSA-PSS-SHAKE256\0"
+    "id-ecdsa-with-shake128\0" "id-ecdsa-with-shake256\0", "id-alg-hss-lms-hashsig\0" "id-ct-cbor\0"
+    "id-ct-cborSequence\0" "c-PhysicalDeliveryOfficeName\0" "corbaIor\0" "corbaRepositoryId\0" "corbaContainer\0"
+    "corbaObject\0" "corbaObjectReference\0" "fax\0" "pkcs9email\0" "newPilotPerson\0" "changeNumber\0" "targetDn\0"
+    "changeType\0" "changes\0" "newRdn\0" "deleteOldRdn\0" "newSuperior\0" "changeTime\0" "nsUniqueId\0"
+    "targetUniqueId\0" "changeLogEntry\0" "memberURL\0" "dgIdentity\0" "dgAuthz\0" "dgMemberOf\0" "groupOfURLs\0"
+    "dgIdentityAux\0" "javaClassName\0" "javaCodebase\0" "javaClassNames\0" "javaSerializedData\0" "javaFactory\0"
+    "javaReferenceAddress\0" "javaDoc\0" "javaContainer\0" "javaObject\0", "javaSerializedObject\0"
+    "javaMarshalledObject\0" "javaNamingReference\0" "mailLocalAddress\0" "mailHost\0" "mailRoutingAddress\0"
+    "inetLocalMailRecipient\0" "rfc822MailMember\0" "nisMailAlias\0" "namedObject\0" "namedPolicy\0" "gecos\0"
+    "homeDirectory\0" "loginShell\0" "shadowLastChange\0" "shadowMin\0" "shadowMax\0" "shadowWarning\0"
+    "shadowInactive\0" "shadowExpire\0" "shadowFlag\0" "memberUid\0" "memberNisNetgroup\0" "nisNetgroupTriple\0"
+    "ipServicePort\0" "ipServiceProtocol\0" "ipProtocolNumber\0" "oncRpcNumber\0" "ipHostNumber\0" "ipNetworkNumber\0"
+    "ipNetmaskNumber\0" "macAddress\0" "bootParameter\0" "bootFile\0" "nisMapName\0", "nisMapEntry\0" "posixAccount\0"
+    "shadowAccount\0" "posixGroup\0" "ipService\0" "ipProtocol\0" "oncRpc\0" "ipHost\0" "ipNetwork\0" "nisNetgroup\0"
+    "nisMap\0" "nisObject\0" "ieee802Device\0" "bootableDevice\0" "OpenLDAPorg\0" "OpenLDAPou\0" "OpenLDAPperson\0"
+    "OpenLDAPdisplayableObject\0" "AttCertPath\0" "PolicySyntax\0" "RoleSyntax\0" "xmlPrivilegeInfo\0"
+    "attributeCertificateAttribute\0" "aACertificate\0" "attributeDescriptorCertificate\0"
+    "attributeCertificateRevocationList\0" "attributeAuthorityRevocationList\0" "delegationPath\0" "privPolicy\0"
+    "protPrivPolicy\0" "xmlPrivPolicy\0" "pmiUser\0" "pmiAA\0" "pmiSOA\0", "attCertCRLDistributionPt\0"
+    "pmiDelegationPath\0" "privilegePolicy\0" "protectedPrivilegePolicy\0" "octetStringSubstringsMatch\0"
+    "attributeCertificateExactMatch\0" "attributeCertificateMatch\0" "caseExactIA5SubstringsMatch\0"
+    "integerBitAndMatch\0" "integerBitOrMatch\0" "hasSubordinates\0" "configContext\0" "vendorName\0" "vendorVersion\0"
+    "aliasedEntryName\0" "entry\0" "children\0" "uidNumber\0" "gidNumber\0" "pwdLastSuccess\0" "OpenLDAProotDSE\0"
+    "LDAProotDSE\0" "memberOf\0" "authTimestamp\0" "pwdChangedTime\0" "pwdPolicyChecker\0" "pwdPolicy\0"
+    "pwdAccountLockedTime\0" "pwdFailureTime\0" "pwdHistory\0", "pwdGraceUseTime\0" "pwdReset\0" "pwdPolicySubentry\0"
+    "pwdStartTime\0" "pwdEndTime\0" "pwdAccountTmpLockoutEnd\0" "pwdAttribute\0" "pwdMinAge\0" "pwdMaxAge\0"
+    "pwdInHistory\0" "pwdCheckQuality\0" "pwdMinLength\0" "pwdMaxLength\0" "pwdExpireWarning\0" "pwdGraceAuthNLimit\0"
+    "pwdGraceExpiry\0" "pwdLockout\0" "pwdLockoutDuration\0" "pwdMaxFailure\0" "pwdFailureCountInterval\0"
+    "pwdMustChange\0" "pwdAllowUserChange\0" "pwdSafeModify\0" "pwdMinDelay\0" "pwdMaxDelay\0" "pwdMaxIdle\0"
+    "pwdMaxRecordedFailure\0" "pwdCheckModule\0" "pwdCheckModuleArg\0" "LDAP_CONTROL_MANAGEDSAIT\0"
+    "LDAP_CONTROL_PROXY_AUTHZ\0" "LDAP_CONTROL_SUBENTRIES\0", "LDAP_CONTROL_VALUESRETURNFILTER\0"
+    "LDAP_CONTROL_ASSERT\0" "LDAP_CONTROL_PRE_READ\0" "LDAP_CONTROL_POST_READ\0" "LDAP_CONTROL_SORTREQUEST\0"
+    "LDAP_CONTROL_SORTRESPONSE\0" "LDAP_CONTROL_PAGEDRESULTS\0" "LDAP_CONTROL_AUTHZID_REQUEST\0"
+    "LDAP_CONTROL_AUTHZID_RESPONSE\0" "LDAP_SYNC_OID\0" "LDAP_CONTROL_DONTUSECOPY\0"
+    "LDAP_CONTROL_PASSWORDPOLICYREQUEST\0" "LDAP_CONTROL_PASSWORDPOLICYRESPONSE\0" "LDAP_CONTROL_X_LAZY_COMMIT\0"
+    "LDAP_CONTROL_X_INCREMENTAL_VALUES\0" "LDAP_CONTROL_X_DOMAIN_SCOPE\0" "LDAP_CONTROL_X_PERMISSIVE_MODIFY\0"
+    "LDAP_CONTROL_X_SEARCH_OPTIONS\0", "LDAP_CONTROL_X_TREE_DELETE\0" "LDAP_CONTROL_X_SERVER_NOTIFICATION\0"
+    "LDAP_CONTROL_X_EXTENDED_DN\0" "LDAP_CONTROL_X_SHOW_DELETED\0" "LDAP_CONTROL_X_DIRSYNC\0"
+    "LDAP_CONTROL_X_SESSION_TRACKING\0" "LDAP_CONTROL_PERSIST_REQUEST\0" "LDAP_CONTROL_PERSIST_ENTRY_CHANGE_NOTICE\0"
+    "LDAP_CONTROL_VLVREQUEST\0" "LDAP_CONTROL_VLVRESPONSE\0" "LDAP_CONTROL_X_ACCOUNT_USABILITY\0"
+    "LDAP_CONTROL_X_PASSWORD_EXPIRED\0" "LDAP_CONTROL_X_PASSWORD_EXPIRING\0" "LDAP_EXOP_START_TLS\0"
+    "LDAP_EXOP_MODIFY_PASSWD\0" "LDAP_EXOP_CANCEL\0" "LDAP_EXOP_WHO_AM_I\0" "LDAP_EXOP_TURN\0" "LDAP_TXN\0",
+    "LDAP_FEATURE_ALL_OP_ATTRS\0" "LDAP_FEATURE_ABSOLUTE_FILTERS\0" "LDAP_FEATURE_LANGUAGE_TAG_OPTIONS\0"
+    "LDAP_FEATURE_LANGUAGE_RANGE_OPTIONS\0" "LDAP_FEATURE_MODIFY_INCREMENT\0" "LDAP_MATCHING_RULE_BIT_AND\0"
+    "LDAP_MATCHING_RULE_BIT_OR\0" "LDAP_MATCHING_RULE_TRANSITIVE_EVAL\0" "LDAP_MATCHING_RULE_IN_CHAIN\0"
+    "accountExpires\0" "adminCount\0" "adminDescription\0" "adminDisplayName\0" "allowedAttributes\0"
+    "allowedAttributesEffective\0" "allowedChildClasses\0" "allowedChildClassesEffective\0" "altSecurityIdentities\0"
+    "assistant\0" "badPasswordTime\0" "badPwdCount\0" "canonicalName\0" "codePage\0", "company\0" "countryCode\0"
+    "dBCSPwd\0" "department\0" "division\0" "dNSHostName\0" "employeeID\0" "fSMORoleOwner\0" "gPLink\0" "gPOptions\0"
+    "groupType\0" "homeDrive\0" "instanceType\0" "isCriticalSystemObject\0" "isDeleted\0" "isRecycled\0"
+    "lastKnownParent\0" "lastLogoff\0" "lastLogon\0" "lastLogonTimestamp\0" "legacyExchangeDN\0" "localeID\0"
+    "lockoutDuration\0" "lockOutObservationWindow\0" "lockoutThreshold\0" "lockoutTime\0" "logonCount\0" "logonHours\0"
+    "managedBy\0" "managedObjects\0" "maxPwdAge\0" "minPwdAge\0" "minPwdLength\0" "nETBIOSName\0"
+    "nTSecurityDescriptor\0" "objectCategory\0" "objectGUID\0" "objectSid\0" "objectVersion\0", "operatingSystem\0"
+    "operatingSystemHotfix\0" "operatingSystemServicePack\0" "operatingSystemVersion\0" "middleName\0"
+    "otherWellKnownObjects\0" "otherFacsimileTelephoneNumber\0" "otherHomePhone\0" "otherIpPhone\0" "ipPhone\0"
+    "otherMobile\0" "otherTelephone\0" "otherPager\0" "thumbnailPhoto\0" "primaryGroupID\0" "primaryGroupToken\0"
+    "profilePath\0" "proxyAddresses\0" "pwdHistoryLength\0" "pwdLastSet\0" "pwdProperties\0" "directReports\0"
+    "sAMAccountName\0" "sAMAccountType\0" "scriptPath\0" "sDRightsEffective\0" "servicePrincipalName\0"
+    "showInAddressBook\0" "showInAdvancedViewOnly\0" "sIDHistory\0", "supplementalCredentials\0" "systemFlags\0"
+    "tokenGroups\0" "tokenGroupsGlobalAndUniversal\0" "tokenGroupsNoGCAcceptable\0" "unicodePwd\0" "unixHomeDirectory\0"
+    "uPNSuffixes\0" "userAccountControl\0" "comment\0" "userParameters\0" "userPrincipalName\0" "userWorkstations\0"
+    "uSNChanged\0" "uSNCreated\0" "wellKnownObjects\0" "whenChanged\0" "whenCreated\0" "wWWHomePage\0" "url\0"
+    "msDS-AdditionalDnsHostName\0" "msDS-AllowedToDelegateTo\0" "msDS-Behavior-Version\0" "mS-DS-ConsistencyGuid\0"
+    "mS-DS-CreatorSID\0" "msDS-isGC\0" "msDS-isRODC\0" "msDS-KeyVersionNumber\0"
+    "msDS-LastSuccessfulInteractiveLogonTime\0", "ms-DS-MachineAccountQuota\0" "msDS-PrincipalName\0"
+    "msDS-PSOApplied\0" "msDS-ReplAttributeMetaData\0" "msDS-ResultantPSO\0" "msDS-SiteName\0"
+    "msDS-SupportedEncryptionTypes\0" "msDS-User-Account-Control-Computed\0" "msDS-UserPasswordExpiryTimeComputed\0"
+    "msNPAllowDialin\0" "msSFU30Name\0" "msSFU30NisDomain\0" "msSFU30PosixMember\0" "msTSAllowLogon\0"
+    "msTSHomeDirectory\0" "msTSProfilePath\0" "builtinDomain\0" "computer\0" "contact\0" "container\0" "crossRef\0"
+    "domainDNS\0" "foreignSecurityPrincipal\0" "group\0" "groupPolicyContainer\0" "msDS-ManagedServiceAccount\0"
+    "nTDSDSA\0" "pKICertificateTemplate\0", "pKIEnrollmentService\0" "printQueue\0" "securityPrincipal\0" "server\0"
+    "serviceConnectionPoint\0" "site\0" "subnet\0" "trustedDomain\0" "user\0" "volume\0" "attributeID\0"
+    "attributeSyntax\0" "certificateTemplates\0" "dnsRecord\0" "dSHeuristics\0" "flatName\0" "governsID\0"
+    "gPCFileSysPath\0" "gPCMachineExtensionNames\0" "gPCUserExtensionNames\0" "hasMasterNCs\0" "invocationId\0"
+    "isSingleValued\0" "lDAPDisplayName\0" "msDS-hasMasterNCs\0" "msPKI-Certificate-Application-Policy\0"
+    "msPKI-Certificate-Name-Flag\0" "msPKI-Cert-Template-OID\0" "msPKI-Enrollment-Flag\0" "msPKI-Minimal-Key-Size\0"
+    "msPKI-RA-Signature\0", "msPKI-Template-Schema-Version\0" "objectClassCategory\0" "oMSyntax\0" "options\0"
+    "pKIDefaultCSPs\0" "pKIDefaultKeySpec\0" "pKIExtendedKeyUsage\0" "pKIMaxIssuingDepth\0" "rDNAttID\0" "rootTrust\0"
+    "schemaIDGUID\0" "searchFlags\0" "siteObject\0" "subClassOf\0" "tombstoneLifetime\0" "trustAttributes\0"
+    "trustDirection\0" "trustPartner\0" "trustType\0" "entityMIB\0" "entityMIBObjects\0" "entityPhysical\0"
+    "entPhysicalTable\0" "entPhysicalEntry\0" "entPhysicalIndex\0" "entPhysicalDescr\0" "entPhysicalVendorType\0"
+    "entPhysicalContainedIn\0" "entPhysicalClass\0" "entPhysicalParentRelPos\0" "entPhysicalName\0",
+    "entPhysicalHardwareRev\0" "entPhysicalFirmwareRev\0" "entPhysicalSoftwareRev\0" "entPhysicalSerialNum\0"
+    "entPhysicalMfgName\0" "entPhysicalModelName\0" "entPhysicalAlias\0" "entPhysicalAssetID\0" "entPhysicalIsFRU\0"
+    "entPhysicalMfgDate\0" "entPhysicalUris\0" "entityLogical\0" "entLogicalTable\0" "entLogicalEntry\0"
+    "entLogicalIndex\0" "entLogicalDescr\0" "entLogicalType\0" "entLogicalCommunity\0" "entLogicalTAddress\0"
+    "entLogicalTDomain\0" "entLogicalContextEngineID\0" "entLogicalContextName\0" "entityMapping\0"
+    "entLPMappingTable\0" "entLPMappingEntry\0" "entLPPhysicalIndex\0" "entAliasMappingTable\0",
+    "entAliasMappingEntry\0" "entAliasLogicalIndexOrZero\0" "entAliasMappingIdentifier\0" "entPhysicalContainsTable\0"
+    "entPhysicalContainsEntry\0" "entPhysicalChildIndex\0" "entityGeneral\0" "entLastChangeTime\0" "entityMIBTraps\0"
+    "entityMIBTrapPrefix\0" "entConfigChange\0" "entitySensorMIB\0" "entitySensorObjects\0" "entPhySensorTable\0"
+    "entPhySensorEntry\0" "entPhySensorType\0" "entPhySensorScale\0" "entPhySensorPrecision\0" "entPhySensorValue\0"
+    "entPhySensorOperStatus\0" "entPhySensorUnitsDisplay\0" "entPhySensorValueTimeStamp\0"
+    "entPhySensorValueUpdateRate\0" "dot1dBridge\0", "dot1dNotifications\0" "newRoot\0" "topologyChange\0" "dot1dBase\0"
+    "dot1dBaseBridgeAddress\0" "dot1dBaseNumPorts\0" "dot1dBaseType\0" "dot1dBasePortTable\0" "dot1dBasePortEntry\0"
+    "dot1dBasePort\0" "dot1dBasePortIfIndex\0" "dot1dBasePortCircuit\0" "dot1dBasePortDelayExceededDiscards\0"
+    "dot1dBasePortMtuExceededDiscards\0" "dot1dStp\0" "dot1dStpProtocolSpecification\0" "dot1dStpPriority\0"
+    "dot1dStpTimeSinceTopologyChange\0" "dot1dStpTopChanges\0" "dot1dStpDesignatedRoot\0" "dot1dStpRootCost\0"
+    "dot1dStpRootPort\0" "dot1dStpMaxAge\0" "dot1dStpHelloTime\0" "dot1dStpHoldTime\0" "dot1dStpForwardDelay\0",
+    "dot1dStpBridgeMaxAge\0" "dot1dStpBridgeHelloTime\0" "dot1dStpBridgeForwardDelay\0" "dot1dStpPortTable\0"
+    "dot1dStpPortEntry\0" "dot1dStpPort\0" "dot1dStpPortPriority\0" "dot1dStpPortState\0" "dot1dStpPortEnable\0"
+    "dot1dStpPortPathCost\0" "dot1dStpPortDesignatedRoot\0" "dot1dStpPortDesignatedCost\0"
+    "dot1dStpPortDesignatedBridge\0" "dot1dStpPortDesignatedPort\0" "dot1dStpPortForwardTransitions\0"
+    "dot1dStpPortPathCost32\0" "dot1dSr\0" "dot1dTp\0" "dot1dTpLearnedEntryDiscards\0" "dot1dTpAgingTime\0"
+    "dot1dTpFdbTable\0" "dot1dTpFdbEntry\0" "dot1dTpFdbAddress\0" "dot1dTpFdbPort\0" "dot1dTpFdbStatus\0",
+    "dot1dTpPortTable\0" "dot1dTpPortEntry\0" "dot1dTpPort\0" "dot1dTpPortMaxInfo\0" "dot1dTpPortInFrames\0"
+    "dot1dTpPortOutFrames\0" "dot1dTpPortInDiscards\0" "dot1dStatic\0" "dot1dStaticTable\0" "dot1dStaticEntry\0"
+    "dot1dStaticAddress\0" "dot1dStaticReceivePort\0" "dot1dStaticAllowedToGoTo\0" "dot1dStaticStatus\0" "qBridgeMIB\0"
+    "qBridgeMIBObjects\0" "dot1qBase\0" "dot1qVlanVersionNumber\0" "dot1qMaxVlanId\0" "dot1qMaxSupportedVlans\0"
+    "dot1qNumVlans\0" "dot1qGvrpStatus\0" "dot1qTp\0" "dot1qFdbTable\0" "dot1qFdbEntry\0" "dot1qFdbId\0"
+    "dot1qFdbDynamicCount\0" "dot1qTpFdbTable\0" "dot1qTpFdbEntry\0" "dot1qTpFdbAddress\0", "dot1qTpFdbPort\0"
+    "dot1qTpFdbStatus\0" "dot1qTpGroupTable\0" "dot1qTpGroupEntry\0" "dot1qTpGroupAddress\0" "dot1qTpGroupEgressPorts\0"
+    "dot1qTpGroupLearnt\0" "dot1qForwardAllTable\0" "dot1qForwardAllEntry\0" "dot1qForwardAllPorts\0"
+    "dot1qForwardAllStaticPorts\0" "dot1qForwardAllForbiddenPorts\0" "dot1qForwardUnregisteredTable\0"
+    "dot1qForwardUnregisteredEntry\0" "dot1qForwardUnregisteredPorts\0" "dot1qForwardUnregisteredStaticPorts\0"
+    "dot1qForwardUnregisteredForbiddenPorts\0" "dot1qStatic\0" "dot1qStaticUnicastTable\0" "dot1qStaticUnicastEntry\0"
+    "dot1qStaticUnicastAddress\0", "dot1qStaticUnicastReceivePort\0" "dot1qStaticUnicastAllowedToGoTo\0"
+    "dot1qStaticUnicastStatus\0" "dot1qStaticMulticastTable\0" "dot1qStaticMulticastEntry\0"
+    "dot1qStaticMulticastAddress\0" "dot1qStaticMulticastReceivePort\0" "dot1qStaticMulticastStaticEgressPorts\0"
+    "dot1qStaticMulticastForbiddenEgressPorts\0" "dot1qStaticMulticastStatus\0" "dot1qVlan\0" "dot1qVlanNumDeletes\0"
+    "dot1qVlanCurrentTable\0" "dot1qVlanCurrentEntry\0" "dot1qVlanTimeMark\0" "dot1qVlanIndex\0" "dot1qVlanFdbId\0"
+    "dot1qVlanCurrentEgressPorts\0" "dot1qVlanCurrentUntaggedPorts\0" "dot1qVlanStatus\0", "dot1qVlanCreationTime\0"
+    "dot1qVlanStaticTable\0" "dot1qVlanStaticEntry\0" "dot1qVlanStaticName\0" "dot1qVlanStaticEgressPorts\0"
+    "dot1qVlanForbiddenEgressPorts\0" "dot1qVlanStaticUntaggedPorts\0" "dot1qVlanStaticRowStatus\0"
+    "dot1qNextFreeLocalVlanIndex\0" "dot1qPortVlanTable\0" "dot1qPortVlanEntry\0" "dot1qPvid\0"
+    "dot1qPortAcceptableFrameTypes\0" "dot1qPortIngressFiltering\0" "dot1qPortGvrpStatus\0"
+    "dot1qPortGvrpFailedRegistrations\0" "dot1qPortGvrpLastPduOrigin\0" "dot1qPortRestrictedVlanRegistration\0"
+    "dot1qPortVlanStatisticsTable\0" "dot1qPortVlanStatisticsEntry\0", "dot1qTpVlanPortInFrames\0"
+    "dot1qTpVlanPortOutFrames\0" "dot1qTpVlanPortInDiscards\0" "dot1qTpVlanPortInOverflowFrames\0"
+    "dot1qTpVlanPortOutOverflowFrames\0" "dot1qTpVlanPortInOverflowDiscards\0" "dot1qPortVlanHCStatisticsTable\0"
+    "dot1qPortVlanHCStatisticsEntry\0" "dot1qTpVlanPortHCInFrames\0" "dot1qTpVlanPortHCOutFrames\0"
+    "dot1qTpVlanPortHCInDiscards\0" "dot1qLearningConstraintsTable\0" "dot1qLearningConstraintsEntry\0"
+    "dot1qConstraintVlan\0" "dot1qConstraintSet\0" "dot1qConstraintType\0" "dot1qConstraintStatus\0"
+    "dot1qConstraintSetDefault\0", "dot1qConstraintTypeDefault\0" "dot1vProtocol\0" "dot1vProtocolGroupTable\0"
+    "dot1vProtocolGroupEntry\0" "dot1vProtocolTemplateFrameType\0" "dot1vProtocolTemplateProtocolValue\0"
+    "dot1vProtocolGroupId\0" "dot1vProtocolGroupRowStatus\0" "dot1vProtocolPortTable\0" "dot1vProtocolPortEntry\0"
+    "dot1vProtocolPortGroupId\0" "dot1vProtocolPortGroupVid\0" "dot1vProtocolPortRowStatus\0" "ifInvertedStackMIB\0"
+    "ifInvMIBObjects\0" "ifInvStackTable\0" "ifInvStackEntry\0" "ifInvStackStatus\0" "dot3\0" "dot3StatsTable\0"
+    "dot3StatsEntry\0" "dot3StatsIndex\0" "dot3StatsAlignmentErrors\0" "dot3StatsFCSErrors\0",
+    "dot3StatsSingleCollisionFrames\0" "dot3StatsMultipleCollisionFrames\0" "dot3StatsSQETestErrors\0"
+    "dot3StatsDeferredTransmissions\0" "dot3StatsLateCollisions\0" "dot3StatsExcessiveCollisions\0"
+    "dot3StatsInternalMacTransmitErrors\0" "dot3StatsCarrierSenseErrors\0" "dot3StatsFrameTooLongs\0"
+    "dot3StatsInternalMacReceiveErrors\0" "dot3StatsEtherChipSet\0" "dot3StatsSymbolErrors\0" "dot3StatsDuplexStatus\0"
+    "dot3StatsRateControlAbility\0" "dot3StatsRateControlStatus\0" "dot3CollTable\0" "dot3CollEntry\0" "dot3CollCount\0"
+    "dot3CollFrequencies\0" "dot3Tests\0" "dot3TestTdr\0", "dot3TestLoopBack\0" "dot3Errors\0" "dot3ErrorInitError\0"
+    "dot3ErrorLoopbackError\0" "dot3ControlTable\0" "dot3ControlEntry\0" "dot3ControlFunctionsSupported\0"
+    "dot3ControlInUnknownOpcodes\0" "dot3HCControlInUnknownOpcodes\0" "dot3PauseTable\0" "dot3PauseEntry\0"
+    "dot3PauseAdminMode\0" "dot3PauseOperMode\0" "dot3InPauseFrames\0" "dot3OutPauseFrames\0" "dot3HCInPauseFrames\0"
+    "dot3HCOutPauseFrames\0" "dot3HCStatsTable\0" "dot3HCStatsEntry\0" "dot3HCStatsAlignmentErrors\0"
+    "dot3HCStatsFCSErrors\0" "dot3HCStatsInternalMacTransmitErrors\0" "dot3HCStatsFrameTooLongs\0",
+    "dot3HCStatsInternalMacReceiveErrors\0" "dot3HCStatsSymbolErrors\0" "etherMIB\0" "etherMIBObjects\0" "ipForward\0"
+    "ipForwardNumber\0" "ipForwardTable\0" "ipForwardEntry\0" "ipForwardDest\0" "ipForwardMask\0" "ipForwardPolicy\0"
+    "ipForwardNextHop\0" "ipForwardIfIndex\0" "ipForwardType\0" "ipForwardProto\0" "ipForwardAge\0" "ipForwardInfo\0"
+    "ipForwardNextHopAS\0" "ipForwardMetric1\0" "ipForwardMetric2\0" "ipForwardMetric3\0" "ipForwardMetric4\0"
+    "ipForwardMetric5\0" "ipCidrRouteNumber\0" "ipCidrRouteTable\0" "ipCidrRouteEntry\0" "ipCidrRouteDest\0"
+    "ipCidrRouteMask\0" "ipCidrRouteTos\0" "ipCidrRouteNextHop\0", "ipCidrRouteIfIndex\0" "ipCidrRouteType\0"
+    "ipCidrRouteProto\0" "ipCidrRouteAge\0" "ipCidrRouteInfo\0" "ipCidrRouteNextHopAS\0" "ipCidrRouteMetric1\0"
+    "ipCidrRouteMetric2\0" "ipCidrRouteMetric3\0" "ipCidrRouteMetric4\0" "ipCidrRouteMetric5\0" "ipCidrRouteStatus\0"
+    "inetCidrRouteNumber\0" "inetCidrRouteTable\0" "inetCidrRouteEntry\0" "inetCidrRouteDestType\0"
+    "inetCidrRouteDest\0" "inetCidrRoutePfxLen\0" "inetCidrRoutePolicy\0" "inetCidrRouteNextHopType\0"
+    "inetCidrRouteNextHop\0" "inetCidrRouteIfIndex\0" "inetCidrRouteType\0" "inetCidrRouteProto\0" "inetCidrRouteAge\0"
+    "inetCidrRouteNextHopAS\0", "inetCidrRouteMetric1\0" "inetCidrRouteMetric2\0" "inetCidrRouteMetric3\0"
+    "inetCidrRouteMetric4\0" "inetCidrRouteMetric5\0" "inetCidrRouteStatus\0" "inetCidrRouteDiscards\0" "at\0"
+    "atTable\0" "atEntry\0" "atIfIndex\0" "atPhysAddress\0" "atNetAddress\0" "ipRouteTable\0" "ipRouteEntry\0"
+    "ipRouteDest\0" "ipRouteIfIndex\0" "ipRouteMetric1\0" "ipRouteMetric2\0" "ipRouteMetric3\0" "ipRouteMetric4\0"
+    "ipRouteNextHop\0" "ipRouteType\0" "ipRouteProto\0" "ipRouteAge\0" "ipRouteMask\0" "ipRouteMetric5\0"
+    "ipRouteInfo\0" "egp\0" "egpInMsgs\0" "egpInErrors\0" "egpOutMsgs\0" "egpOutErrors\0" "egpNeighTable\0"
+    "egpNeighEntry\0" "egpNeighState\0", "egpNeighAddr\0" "egpNeighAs\0" "egpNeighInMsgs\0" "egpNeighInErrs\0"
+    "egpNeighOutMsgs\0" "egpNeighOutErrs\0" "egpNeighInErrMsgs\0" "egpNeighOutErrMsgs\0" "egpNeighStateUps\0"
+    "egpNeighStateDowns\0" "egpNeighIntervalHello\0" "egpNeighIntervalPoll\0" "egpNeighMode\0" "egpNeighEventTrigger\0"
+    "egpAs\0" "snmpFrameworkMIB\0" "snmpFrameworkAdmin\0" "snmpAuthProtocols\0" "snmpPrivProtocols\0"
+    "snmpFrameworkMIBObjects\0" "snmpEngine\0" "snmpEngineID\0" "snmpEngineBoots\0" "snmpEngineTime\0"
+    "snmpEngineMaxMessageSize\0" "usmNoAuthProtocol\0" "usmHMACMD5AuthProtocol\0" "usmHMACSHAAuthProtocol\0"
+    "usmNoPrivProtocol\0", "usmDESPrivProtocol\0" "snmpUsmMIB\0" "usmMIBObjects\0" "usmStats\0"
+    "usmStatsUnsupportedSecLevels\0" "usmStatsNotInTimeWindows\0" "usmStatsUnknownUserNames\0"
+    "usmStatsUnknownEngineIDs\0" "usmStatsWrongDigests\0" "usmStatsDecryptionErrors\0" "usmUser\0" "usmUserSpinLock\0"
+    "usmUserTable\0" "usmUserEntry\0" "usmUserEngineID\0" "usmUserName\0" "usmUserSecurityName\0" "usmUserCloneFrom\0"
+    "usmUserAuthProtocol\0" "usmUserAuthKeyChange\0" "usmUserOwnAuthKeyChange\0" "usmUserPrivProtocol\0"
+    "usmUserPrivKeyChange\0" "usmUserOwnPrivKeyChange\0" "usmUserPublic\0" "usmUserStorageType\0" "usmUserStatus\0"
+    "snmpVacmMIB\0", "vacmMIBObjects\0" "vacmContextTable\0" "vacmContextEntry\0" "vacmContextName\0"
+    "vacmContextStatus\0" "vacmSecurityToGroupTable\0" "vacmSecurityToGroupEntry\0" "vacmSecurityModel\0"
+    "vacmSecurityName\0" "vacmGroupName\0" "vacmSecurityToGroupStorageType\0" "vacmSecurityToGroupStatus\0"
+    "vacmAccessTable\0" "vacmAccessEntry\0" "vacmAccessContextPrefix\0" "vacmAccessSecurityModel\0"
+    "vacmAccessSecurityLevel\0" "vacmAccessContextMatch\0" "vacmAccessReadViewName\0" "vacmAccessWriteViewName\0"
+    "vacmAccessNotifyViewName\0" "vacmAccessStorageType\0" "vacmAccessStatus\0" "vacmMIBViews\0" "vacmViewSpinLock\0",
+    "vacmViewTreeFamilyTable\0" "vacmViewTreeFamilyEntry\0" "vacmViewTreeFamilyViewName\0" "vacmViewTreeFamilySubtree\0"
+    "vacmViewTreeFamilyMask\0" "vacmViewTreeFamilyType\0" "vacmViewTreeFamilyStorageType\0" "vacmViewTreeFamilyStatus\0"
+    "szOID_PKCS_12_KEY_PROVIDER_NAME_ATTR\0" "szOID_PKCS_12_EXTENDED_ATTRIBUTES\0" "szOID_EV_RDN_LOCALE\0"
+    "szOID_EV_RDN_STATE_OR_PROVINCE\0" "szOID_EV_RDN_COUNTRY\0" "szOID_AUTHORITY_KEY_IDENTIFIER\0"
+    "szOID_KEY_ATTRIBUTES\0" "szOID_KEY_USAGE_RESTRICTION\0" "szOID_SUBJECT_ALT_NAME\0" "szOID_ISSUER_ALT_NAME\0"
+    "szOID_BASIC_CONSTRAINTS\0", "szOID_KEY_USAGE\0" "szOID_PRIVATEKEY_USAGE_PERIOD\0" "szOID_BASIC_CONSTRAINTS2\0"
+    "szOID_CERT_POLICIES\0" "szOID_ANY_CERT_POLICY\0" "szOID_INHIBIT_ANY_POLICY\0" "szOID_AUTHORITY_KEY_IDENTIFIER2\0"
+    "szOID_SUBJECT_KEY_IDENTIFIER\0" "szOID_SUBJECT_ALT_NAME2\0" "szOID_ISSUER_ALT_NAME2\0" "szOID_CRL_REASON_CODE\0"
+    "szOID_REASON_CODE_HOLD\0" "szOID_CRL_DIST_POINTS\0" "szOID_ENHANCED_KEY_USAGE\0" "szOID_ANY_ENHANCED_KEY_USAGE\0"
+    "szOID_CRL_NUMBER\0" "szOID_DELTA_CRL_INDICATOR\0" "szOID_ISSUING_DIST_POINT\0" "szOID_FRESHEST_CRL\0"
+    "szOID_NAME_CONSTRAINTS\0" "szOID_POLICY_MAPPINGS\0", "szOID_POLICY_CONSTRAINTS\0" "szOID_PKIX\0" "szOID_PKIX_PE\0"
+    "szOID_AUTHORITY_INFO_ACCESS\0" "szOID_SUBJECT_INFO_ACCESS\0" "szOID_BIOMETRIC_EXT\0" "szOID_QC_STATEMENTS_EXT\0"
+    "szOID_LOGOTYPE_EXT\0" "szOID_TLS_FEATURES_EXT\0" "szOID_CERT_EXTENSIONS\0" "szOID_NEXT_UPDATE_LOCATION\0"
+    "szOID_CROSS_CERT_DIST_POINTS\0" "szOID_ENTERPRISE_OID_ROOT\0" "szOID_SUBJECT_DIR_ATTRS\0" "szOID_PKIX_KP\0"
+    "szOID_PKIX_KP_SERVER_AUTH\0" "szOID_PKIX_KP_CLIENT_AUTH\0" "szOID_PKIX_KP_CODE_SIGNING\0"
+    "szOID_PKIX_KP_EMAIL_PROTECTION\0" "szOID_PKIX_KP_IPSEC_END_SYSTEM\0" "szOID_PKIX_KP_IPSEC_TUNNEL\0",
+    "szOID_PKIX_KP_IPSEC_USER\0" "szOID_PKIX_KP_TIMESTAMP_SIGNING\0" "szOID_PKIX_OCSP_NONCE\0"
+    "szOID_PKIX_OCSP_NOCHECK\0" "szOID_IPSEC_KP_IKE_INTERMEDIATE\0" "szOID_PKINIT_KP_KDC\0" "szOID_DRM\0"
+    "szOID_LICENSES\0" "szOID_LICENSE_SERVER\0" "szOID_KP_KERNEL_MODE_CODE_SIGNING\0" "szOID_REVOKED_LIST_SIGNER\0"
+    "szOID_DISALLOWED_LIST\0" "szOID_MICROSOFT_PUBLISHER_SIGNER\0" "szOID_PKIX_POLICY_QUALIFIER_CPS\0"
+    "szOID_PKIX_POLICY_QUALIFIER_USERNOTICE\0" "szOID_ENROLL_CAXCHGCERT_HASH\0" "szOID_PKIX_ACC_DESCR\0"
+    "szOID_PKIX_OCSP\0" "szOID_PKIX_CA_ISSUERS\0" "szOID_PKIX_TIME_STAMPING\0", "szOID_PKIX_CA_REPOSITORY\0"
+    "szOID_PKIX_OCSP_BASIC_SIGNED_RESPONSE\0" "microsoft\0" "NTLMSSP\0" "NEGOEX\0" "MS-KRB5\0"
+    "Subject Key Identifier\0" "Key Usage\0" "Private Key Usage Period\0" "Subject Alternative Name\0"
+    "Issuer Alternative Name\0" "Basic Constraints\0" "CRL Number\0" "Certificate Policies\0"
+    "Authority Key Identifier\0" "CRL Distribution Points\0" "Extended Key Usage\0" "Delta CRL Indicator\0"
+    "CRL Reason Code\0" "Policy Constraints\0" "AC Targeting\0" "No Revocation Available\0" "Name Constraints\0"
+    "Any Policy\0" "Policy Mappings\0" "Inhibit Any Policy\0" "Subject Directory Attributes\0",
+    "Issuing Distribution Point\0" "Certificate Issuer\0" "Freshest CRL\0" "Audit Identity\0"
+    "Authority Attribute Identifier\0" "Role Specification Certificate Identifier\0"
+    "Basic Attribute Certificate Constraints\0" "Delegated Name Constraints\0" "Time Specification\0"
+    "Attribute Descriptor\0" "Source of Authority Identifier\0" "Acceptable Certification Policies\0"
+    "Acceptable Privilege Policies\0" "Indirect Issuer\0" "No Assertion\0"
+    "Attribute Authority Issuing Distribution Point\0" "Issued On Behalf Of\0" "Single Use\0"
+    "Group Attribute Certificate\0", "Allowed Attribute Assignments\0" "Attribute Mappings\0"
+    "Holder Name Constraints\0" "Authorization Validation\0" "Protocol Restriction\0"
+    "Subject Alternative Public Key Info\0" "Alternative Signature Algorithm\0" "Alternative Signature Value\0"
+    "Associated Information\0" "Certificate Template Name\0" "CA Version\0" "Previous CA Certificate Hash\0"
+    "Virtual Base CRL Number\0" "Next CRL Publish\0" "Private Key Archival\0" "Key Recovery Agent\0"
+    "Certificate Template Information\0" "Certificate Template\0" "Dummy Signer\0" "Application Policies\0"
+    "Application Policy Mappings\0", "Application Policy Constraints\0" "Archived Key\0" "Published CRL Locations\0"
+    "Enforce Certificate Chain Policy\0" "Archived Key Certificate Hash\0" "Directory Service Email Replication\0"
+    "Client Information\0" "Encrypted Private Key\0" "Cross CA Version\0" "Certificate Request Agent\0"
+    "Smart Card Logon\0" "Principal Name\0" "User Principal Name\0" "UPN\0" "Certificate Trust List\0"
+    "Microsoft Time Stamping\0" "Encrypting File System\0" "File Recovery\0" "Windows Hardware Driver Verification\0"
+    "Windows System Component Verification\0" "OEM Windows System Component Verification\0",
+    "Embedded Windows System Component Verification\0" "Root List Signer\0" "Qualified Subordination\0" "Key Recovery\0"
+    "Document Signing\0" "Lifetime Signing\0" "Revoked List Signer\0" "Disallowed List\0" "Digital Rights\0"
+    "Key Pack Licenses\0" "License Server Verification\0" "All application policies\0" "Remote Desktop Authentication\0"
+    "Kernel Mode Code Signing\0" "BitLocker Drive Encryption\0" "BitLocker Data Recovery Agent\0" "KDC Authentication\0"
+    "Server Authentication\0" "Client Authentication\0" "Secure Email\0" "IP security end system\0"
+    "IP security tunnel termination\0", "IP security user\0" "IP security IKE intermediate\0" "Enhanced Key Usage\0"
+    "All issuance policies\0" "Any Purpose\0" "CPS\0" "User Notice\0" "E\0" "S\0" "G\0" "I\0" "T\0"
+    "Platform Certificate\0" "User ID\0" "Domain Component\0" "Email Address\0" "Inc. Locality\0"
+    "Inc. State / Province\0" "Inc. Country\0" "Microsoft Certificate Policies\0" "Embedded SCTs\0"
+    "Embedded Signed Certificate Timestamps\0" "OCSP Stapling\0" "Online Certificate Status Protocol Stapling\0"
+    "Common Name\0" "Serial Number\0" "State / Province\0" "Organizational Unit\0" "Business Category\0"
+    "Postal Address\0" "Postal Code\0" "POBox\0" "PO Box\0", "Phone Number\0" "Fax Number\0" "See Also\0"
+    "User Password\0" "User Certificate\0" "CA Certificate\0" "Certificate Revocation List\0" "Given Name\0"
+    "Generation Qualifier\0" "Unique Identifier\0" "DN Qualifier\0" "Distinguished Name\0" "House Identifier\0"
+    "Subject Key ID\0" "Key Usages\0" "Subject Alt Names\0" "Subject Alternative Names\0" "CRL Endpoints\0"
+    "Certificate Revocation List Endpoints\0" "Authority Key ID\0" "Extended Key Usages\0" "Extended Validation\0"
+    "Domain Validation\0" "Organization Validation\0" "Individual Validation\0" "Extended Validation (Code Signing)\0",
+    "Certificate Trust List (CTL) Signing\0" "Timestamp Signing\0" "EFS Encryption\0" "EFS Recovery\0"
+    "Digital Rights Management\0" "License Server\0" "Enrollment Agent\0" "Smartcard Login\0"
+    "Certificate Authority Private Key Archival\0" "Internet Key Exchange (IKE)\0" "MD5 with RSA Encryption\0"
+    "SHA-1 with RSA Encryption\0" "SHA-256 with RSA Encryption\0" "SHA-384 with RSA Encryption\0"
+    "SHA-512 with RSA Encryption\0" "DSA with SHA-1\0" "DSA with SHA-256\0" "ECDSA with SHA-1\0" "ECDSA with SHA-256\0"
+    "ECDSA with SHA-384\0" "ECDSA with SHA-512\0", "Online Certificate Status Protocol (OCSP)\0" "State/Province\0"
+    "sha3_224\0" "sha3_256\0" "sha3_384\0" "sha3_512\0" "ctPoison\0" "msCertificateTemplate\0" "Admissions\0"
+    "OCSPNoCheck\0" "deltaCRLIndicator\0" "OCSPNonce\0" "StateName\0" "OrgName\0" "OrgUnitName\0" "SubjectKeyID\0"
+    "PrivateKeyUsage\0" "SubjectAlternativeName\0" "IssuerAlternativeName\0" "ReasonCode\0" "AuthorityKeyID\0"
+    "AuthInfoAccess\0" "OCSPBasicResponse\0" "OCSPNonceExt\0" "AES_128/ECB/NoPadding\0" "AES_128/CBC/NoPadding\0"
+    "AES_128/OFB/NoPadding\0" "AES_128/CFB/NoPadding\0" "AES_128/KW/NoPadding\0" "AESWrap_128\0"
+    "AES_128/GCM/NoPadding\0", "AES_128/KWP/NoPadding\0" "AESWrapPad_128\0" "AES_192/ECB/NoPadding\0"
+    "AES_192/CBC/NoPadding\0" "AES_192/OFB/NoPadding\0" "AES_192/CFB/NoPadding\0" "AES_192/KW/NoPadding\0"
+    "AESWrap_192\0" "AES_192/GCM/NoPadding\0" "AES_192/KWP/NoPadding\0" "AESWrapPad_192\0" "AES_256/ECB/NoPadding\0"
+    "AES_256/CBC/NoPadding\0" "AES_256/OFB/NoPadding\0" "AES_256/CFB/NoPadding\0" "AES_256/KW/NoPadding\0"
+    "AESWrap_256\0" "AES_256/GCM/NoPadding\0" "AES_256/KWP/NoPadding\0" "AESWrapPad_256\0" "SHA512/224\0" "SHA512/256\0"
+    "SHAKE128-256\0" "SHAKE256-512\0" "HmacSHA3-224\0" "HmacSHA3-256\0" "HmacSHA3-384\0" "HmacSHA3-512\0",
+    "SHAKE128-LEN\0" "SHAKE256-LEN\0" "SHA224withDSA\0" "SHA256withDSA\0" "SHA384withDSA\0" "SHA512withDSA\0"
+    "SHA3-224withDSA\0" "SHA3-256withDSA\0" "SHA3-384withDSA\0" "SHA3-512withDSA\0" "SHA3-224withECDSA\0"
+    "SHA3-256withECDSA\0" "SHA3-384withECDSA\0" "SHA3-512withECDSA\0" "SHA3-224withRSA\0" "SHA3-256withRSA\0"
+    "SHA3-384withRSA\0" "SHA3-512withRSA\0" "RSA/ECB/PKCS1Padding\0" "MD2withRSA\0" "OAEP\0" "SHA256withRSA\0"
+    "SHA384withRSA\0" "SHA512withRSA\0" "SHA224withRSA\0" "SHA512/224withRSA\0" "SHA512/256withRSA\0" "DiffieHellman\0"
+    "PBEWithMD5AndDES\0" "PBEWithMD5AndRC2\0" "PBEWithSHA1AndDES\0" "PBEWithSHA1AndRC2\0", "PBKDF2WithHmacSHA1\0"
+    "IssuerAndSerialNumber\0" "ExtensionRequest\0" "SMIMECapability\0" "TimeStampTokenInfo\0"
+    "SignatureTimestampToken\0" "CHACHA20-POLY1305\0" "CertTypeX509\0" "CMSAlgorithmProtection\0"
+    "PBEWithSHA1AndRC4_128\0" "PBEWithSHA1AndRC4_40\0" "PBEWithSHA1AndDESede\0" "PBEWithSHA1AndRC2_128\0"
+    "PBEWithSHA1AndRC2_40\0" "HmacSHA1\0" "HmacSHA224\0" "HmacSHA256\0" "HmacSHA384\0" "HmacSHA512\0" "HmacSHA512/224\0"
+    "HmacSHA512/256\0" "RC2/CBC/PKCS5Padding\0" "ARCFOUR\0" "DESede/CBC/NoPadding\0" "RC5/CBC/PKCS5Padding\0"
+    "SHA1withDSA\0" "DSS\0" "NIST P-192\0" "NIST P-256\0" "SHA1withECDSA\0" "SHA224withECDSA\0", "SHA256withECDSA\0"
+    "SHA384withECDSA\0" "SHA512withECDSA\0" "SpecifiedSHA2withECDSA\0" "NIST K-163\0" "NIST B-163\0" "NIST K-283\0"
+    "NIST B-283\0" "NIST K-233\0" "NIST B-233\0" "NIST P-224\0" "NIST P-384\0" "NIST P-521\0" "NIST K-409\0"
+    "NIST B-409\0" "NIST K-571\0" "NIST B-571\0" "ECDH\0" "DES/CBC\0" "DES\0" "DESede\0" "MD5-RSA\0" "SHA1-RSA\0"
+    "SHA256-RSA\0" "SHA384-RSA\0" "SHA512-RSA\0" "SHA256-RSAPSS\0" "SHA384-RSAPSS\0" "SHA512-RSAPSS\0" "ECDSA\0"
+    "msKernelCode\0" "TLS WWW Server\0" "TLS WWW Client\0" "Email protection\0" "Ipsec IKE\0" "TLS Features\0"
+    "Key Purpose\0" "GOSTR341194\0" "STREEBOG-256\0" "STREEBOG-512\0" "RSA-RMD160\0" "RSA-PSS-SHA256\0",
+    "RSA-PSS-SHA384\0" "RSA-PSS-SHA512\0" "EdDSA-Ed25519\0" "GOSTR341001\0" "GOSTR341012-256\0" "GOSTR341012-512\0"
+    "EdDSA-Ed448\0" "EC/ECDSA\0" "ECDH (X25519)\0" "EdDSA (Ed25519)\0" "ECDH (X448)\0" "EdDSA (Ed448)\0"
+    "placeOfBirth\0" "gender\0" "countryOfCitizenship\0" "countryOfResidence\0"
+    "jurisdictionOfIncorporationLocalityName\0" "jurisdictionOfIncorporationStateOrProvinceName\0"
+    "jurisdictionOfIncorporationCountryName\0" "PKCS #1 RSA Encryption\0" "PKCS #1 MD2 With RSA Encryption\0"
+    "PKCS #1 MD4 With RSA Encryption\0" "PKCS #1 MD5 With RSA Encryption\0" "PKCS #1 SHA-1 With RSA Encryption\0",
+    "PKCS #7\0" "PKCS #7 Data\0" "PKCS #7 Signed Data\0" "PKCS #7 Enveloped Data\0"
+    "PKCS #7 Signed And Enveloped Data\0" "PKCS #7 Digested Data\0" "PKCS #7 Encrypted Data\0" "PKCS #9 Email Address\0"
+    "PKCS #9 Content Type\0" "PKCS #9 Message Digest\0" "PKCS #9 Signing Time\0" "PKCS #9 Counter Signature\0"
+    "PKCS #9 S/MIME Capabilities\0" "X520 Common Name\0" "X520 Country Name\0" "X520 Locality Name\0"
+    "X520 State Or Province Name\0" "X520 Organization Name\0" "X520 Organizational Unit Name\0" "X520 DN Qualifier\0"
+    "Certificate Subject Directory Attributes\0" "Certificate Subject Key ID\0", "Certificate Key Usage\0"
+    "Certificate Private Key Usage Period\0" "Certificate Subject Alt Name\0" "Certificate Issuer Alt Name\0"
+    "Certificate Basic Constraints\0" "Certificate Name Constraints\0" "Certificate Policy Mappings\0"
+    "Certificate Policy Constraints\0" "Certificate Authority Key Identifier\0" "PKCS #12\0"
+    "ANSI X9.57 DSA Signature\0" "ANSI X9.57 DSA Signature with SHA-1 Digest\0" "PKIX CPS Pointer Qualifier\0"
+    "PKIX User Notice Qualifier\0" "PKIX Online Certificate Status Protocol\0" "OCSP Basic Response\0"
+    "OCSP Nonce Extension\0" "OCSP No Check Extension\0", "TLS Web Server Authentication Certificate\0"
+    "TLS Web Client Authentication Certificate\0" "Code Signing Certificate\0" "E-Mail Protection Certificate\0"
+    "Time Stamping Certifcate\0" "PKCS #9 Friendly Name\0" "PKCS #9 Local Key ID\0"
+    "PKCS #1 SHA-256 With RSA Encryption\0" "PKCS #1 SHA-384 With RSA Encryption\0"
+    "PKCS #1 SHA-512 With RSA Encryption\0" "AES-128 Key Wrap\0" "AES-192 Key Wrap\0" "AES-256 Key Wrap\0"
+    "X9.62 elliptic curve public key\0" "X9.62 ECDSA signature with SHA-1\0" "X520 Serial Number\0"
+    "X520 Street Address\0" "X520 Given Name\0", "PKIX CA issuers access method\0" "PKCS #9 Extension Request\0"
+    "X9.62 ECDSA signature with recommended digest\0" "X9.62 ECDSA signature with specified digest\0"
+    "X9.62 ECDSA signature with SHA224\0" "X9.62 ECDSA signature with SHA256\0" "X9.62 ECDSA signature with SHA384\0"
+    "X9.62 ECDSA signature with SHA512\0" "CRL Hold Instruction Code\0" "Certificate Issuer Extension\0"
+    "Subject Info Access\0" "PKCS #5 Password Based Key Dervive Function v2\0" "PKCS #5 Password Based Encryption v2\0"
+    "PKCS #5 Password Based Authentication v1\0" "HMAC SHA-1\0" "HMAC SHA-224\0", "HMAC SHA-256\0" "HMAC SHA-384\0"
+    "HMAC SHA-512\0" "Certificate Policies AnyPolicy\0" "PKCS #1 RSA-OAEP Encryption\0"
+    "PKCS #1 MGF1 Mask Generation Function\0" "PKCS #1 RSA-OAEP Explicitly Specified Encoding Parameters\0"
+    "PKCS #1 RSA-PSS Signature\0" "PKCS #1 SHA-224 With RSA Encryption\0" "DSA with SHA-224 Signature\0"
+    "DSA with SHA-256 Signature\0" "Curve25519\0" "IPsec IKE Certificate\0" "IPsec IKE End\0" "IPsec IKE Intermediate\0"
+    "P192\0" "P224\0" "P256\0" "P384\0" "P521\0" "AES-128\0" "AES-192\0" "AES-256\0" "sha_1\0" "sha_224\0" "sha_256\0"
+    "sha_384\0" "sha_512\0" "shake_128\0" "shake_256\0" "HMAC-SHA256\0", "HMAC-SHA384\0" "HMAC-SHA512\0" "HMAC-SHA224\0"
+    "sysUpTimeInstance\0" "bgp\0" "bgpNotification\0" "bgpVersion\0" "bgpLocalAs\0" "bgpPeerTable\0" "bgpPeerEntry\0"
+    "bgpPeerIdentifier\0" "bgpPeerState\0" "bgpPeerAdminStatus\0" "bgpPeerNegotiatedVersion\0" "bgpPeerLocalAddr\0"
+    "bgpPeerLocalPort\0" "bgpPeerRemoteAddr\0" "bgpPeerRemotePort\0" "bgpPeerRemoteAs\0" "bgpPeerInUpdates\0"
+    "bgpPeerOutUpdates\0" "bgpPeerInTotalMessages\0" "bgpPeerOutTotalMessages\0" "bgpPeerLastError\0"
+    "bgpPeerFsmEstablishedTransitions\0" "bgpPeerFsmEstablishedTime\0" "bgpPeerConnectRetryInterval\0"
+    "bgpPeerHoldTime\0" "bgpPeerKeepAlive\0", "bgpPeerHoldTimeConfigured\0" "bgpPeerKeepAliveConfigured\0"
+    "bgpPeerMinASOriginationInterval\0" "bgpPeerMinRouteAdvertisementInterval\0" "bgpPeerInUpdateElapsedTime\0"
+    "bgpIdentifier\0" "bgpRcvdPathAttrTable\0" "bgpPathAttrEntry\0" "bgpPathAttrPeer\0" "bgpPathAttrDestNetwork\0"
+    "bgpPathAttrOrigin\0" "bgpPathAttrASPath\0" "bgpPathAttrNextHop\0" "bgpPathAttrInterASMetric\0"
+    "bgp4PathAttrTable\0" "bgp4PathAttrEntry\0" "bgp4PathAttrPeer\0" "bgp4PathAttrIpAddrPrefixLen\0"
+    "bgp4PathAttrIpAddrPrefix\0" "bgp4PathAttrOrigin\0" "bgp4PathAttrASPathSegment\0" "bgp4PathAttrNextHop\0",
+    "bgp4PathAttrMultiExitDisc\0" "bgp4PathAttrLocalPref\0" "bgp4PathAttrAtomicAggregate\0" "bgp4PathAttrAggregatorAS\0"
+    "bgp4PathAttrAggregatorAddr\0" "bgp4PathAttrCalcLocalPref\0" "bgp4PathAttrBest\0" "bgp4PathAttrUnknown\0"
+    "bgpTraps\0" "bgpEstablishedNotification\0" "bgpBackwardTransNotification\0" "bgpEstablished\0"
+    "bgpBackwardTransition\0" "upsMIB\0" "upsObjects\0" "upsIdent\0" "upsIdentManufacturer\0" "upsIdentModel\0"
+    "upsIdentUPSSoftwareVersion\0" "upsIdentAgentSoftwareVersion\0" "upsIdentName\0" "upsIdentAttachedDevices\0"
+    "upsBattery\0" "upsBatteryStatus\0" "upsSecondsOnBattery\0", "upsEstimatedMinutesRemaining\0"
+    "upsEstimatedChargeRemaining\0" "upsBatteryVoltage\0" "upsBatteryCurrent\0" "upsBatteryTemperature\0" "upsInput\0"
+    "upsInputLineBads\0" "upsInputNumLines\0" "upsInputTable\0" "upsInputEntry\0" "upsInputLineIndex\0"
+    "upsInputFrequency\0" "upsInputVoltage\0" "upsInputCurrent\0" "upsInputTruePower\0" "upsOutput\0"
+    "upsOutputSource\0" "upsOutputFrequency\0" "upsOutputNumLines\0" "upsOutputTable\0" "upsOutputEntry\0"
+    "upsOutputLineIndex\0" "upsOutputVoltage\0" "upsOutputCurrent\0" "upsOutputPower\0" "upsOutputPercentLoad\0"
+    "upsBypass\0" "upsBypassFrequency\0" "upsBypassNumLines\0", "upsBypassTable\0" "upsBypassEntry\0"
+    "upsBypassLineIndex\0" "upsBypassVoltage\0" "upsBypassCurrent\0" "upsBypassPower\0" "upsAlarm\0"
+    "upsAlarmsPresent\0" "upsAlarmTable\0" "upsAlarmEntry\0" "upsAlarmId\0" "upsAlarmDescr\0" "upsAlarmTime\0"
+    "upsWellKnownAlarms\0" "upsAlarmBatteryBad\0" "upsAlarmOnBattery\0" "upsAlarmLowBattery\0"
+    "upsAlarmDepletedBattery\0" "upsAlarmTempBad\0" "upsAlarmInputBad\0" "upsAlarmOutputBad\0"
+    "upsAlarmOutputOverload\0" "upsAlarmOnBypass\0" "upsAlarmBypassBad\0" "upsAlarmOutputOffAsRequested\0"
+    "upsAlarmUpsOffAsRequested\0" "upsAlarmChargerFailed\0" "upsAlarmUpsOutputOff\0", "upsAlarmUpsSystemOff\0"
+    "upsAlarmFanFailure\0" "upsAlarmFuseFailure\0" "upsAlarmGeneralFault\0" "upsAlarmDiagnosticTestFailed\0"
+    "upsAlarmCommunicationsLost\0" "upsAlarmAwaitingPower\0" "upsAlarmShutdownPending\0" "upsAlarmShutdownImminent\0"
+    "upsAlarmTestInProgress\0" "upsTest\0" "upsTestId\0" "upsTestSpinLock\0" "upsTestResultsSummary\0"
+    "upsTestResultsDetail\0" "upsTestStartTime\0" "upsTestElapsedTime\0" "upsWellKnownTests\0"
+    "upsTestNoTestsInitiated\0" "upsTestAbortTestInProgress\0" "upsTestGeneralSystemsTest\0" "upsTestQuickBatteryTest\0"
+    "upsTestDeepBatteryCalibration\0" "upsControl\0", "upsShutdownType\0" "upsShutdownAfterDelay\0"
+    "upsStartupAfterDelay\0" "upsRebootWithDuration\0" "upsAutoRestart\0" "upsConfig\0" "upsConfigInputVoltage\0"
+    "upsConfigInputFreq\0" "upsConfigOutputVoltage\0" "upsConfigOutputFreq\0" "upsConfigOutputVA\0"
+    "upsConfigOutputPower\0" "upsConfigLowBattTime\0" "upsConfigAudibleStatus\0" "upsConfigLowVoltageTransferPoint\0"
+    "upsConfigHighVoltageTransferPoint\0" "upsTraps\0" "upsTrapOnBattery\0" "upsTrapTestCompleted\0"
+    "upsTrapAlarmEntryAdded\0" "upsTrapAlarmEntryRemoved\0" "printmib\0" "prtGeneral\0" "prtGeneralTable\0"
+    "prtGeneralEntry\0", "prtGeneralConfigChanges\0" "prtGeneralCurrentLocalization\0" "prtGeneralReset\0"
+    "prtGeneralCurrentOperator\0" "prtGeneralServicePerson\0" "prtInputDefaultIndex\0" "prtOutputDefaultIndex\0"
+    "prtMarkerDefaultIndex\0" "prtMediaPathDefaultIndex\0" "prtConsoleLocalization\0" "prtConsoleNumberOfDisplayLines\0"
+    "prtConsoleNumberOfDisplayChars\0" "prtConsoleDisable\0" "prtAuxiliarySheetStartupPage\0"
+    "prtAuxiliarySheetBannerPage\0" "prtGeneralPrinterName\0" "prtGeneralSerialNumber\0" "prtAlertCriticalEvents\0"
+    "prtAlertAllEvents\0" "prtStorageRefTable\0" "prtStorageRefEntry\0", "prtStorageRefSeqNumber\0"
+    "prtStorageRefIndex\0" "prtDeviceRefTable\0" "prtDeviceRefEntry\0" "prtDeviceRefSeqNumber\0" "prtDeviceRefIndex\0"
+    "prtCover\0" "prtCoverTable\0" "prtCoverEntry\0" "prtCoverIndex\0" "prtCoverDescription\0" "prtCoverStatus\0"
+    "prtLocalization\0" "prtLocalizationTable\0" "prtLocalizationEntry\0" "prtLocalizationIndex\0"
+    "prtLocalizationLanguage\0" "prtLocalizationCountry\0" "prtLocalizationCharacterSet\0" "prtInput\0"
+    "prtInputTable\0" "prtInputEntry\0" "prtInputIndex\0" "prtInputType\0" "prtInputDimUnit\0"
+    "prtInputMediaDimFeedDirDeclared\0" "prtInputMediaDimXFeedDirDeclared\0", "prtInputMediaDimFeedDirChosen\0"
+    "prtInputMediaDimXFeedDirChosen\0" "prtInputCapacityUnit\0" "prtInputMaxCapacity\0" "prtInputCurrentLevel\0"
+    "prtInputStatus\0" "prtInputMediaName\0" "prtInputName\0" "prtInputVendorName\0" "prtInputModel\0"
+    "prtInputVersion\0" "prtInputSerialNumber\0" "prtInputDescription\0" "prtInputSecurity\0" "prtInputMediaWeight\0"
+    "prtInputMediaType\0" "prtInputMediaColor\0" "prtInputMediaFormParts\0" "prtInputMediaLoadTimeout\0"
+    "prtInputNextIndex\0" "prtOutput\0" "prtOutputTable\0" "prtOutputEntry\0" "prtOutputIndex\0" "prtOutputType\0"
+    "prtOutputCapacityUnit\0", "prtOutputMaxCapacity\0" "prtOutputRemainingCapacity\0" "prtOutputStatus\0"
+    "prtOutputName\0" "prtOutputVendorName\0" "prtOutputModel\0" "prtOutputVersion\0" "prtOutputSerialNumber\0"
+    "prtOutputDescription\0" "prtOutputSecurity\0" "prtOutputDimUnit\0" "prtOutputMaxDimFeedDir\0"
+    "prtOutputMaxDimXFeedDir\0" "prtOutputMinDimFeedDir\0" "prtOutputMinDimXFeedDir\0" "prtOutputStackingOrder\0"
+    "prtOutputPageDeliveryOrientation\0" "prtOutputBursting\0" "prtOutputDecollating\0" "prtOutputPageCollated\0"
+    "prtOutputOffsetStacking\0" "prtMarker\0" "prtMarkerTable\0" "prtMarkerEntry\0" "prtMarkerIndex\0",
+    "prtMarkerMarkTech\0" "prtMarkerCounterUnit\0" "prtMarkerLifeCount\0" "prtMarkerPowerOnCount\0"
+    "prtMarkerProcessColorants\0" "prtMarkerSpotColorants\0" "prtMarkerAddressabilityUnit\0"
+    "prtMarkerAddressabilityFeedDir\0" "prtMarkerAddressabilityXFeedDir\0" "prtMarkerNorthMargin\0"
+    "prtMarkerSouthMargin\0" "prtMarkerWestMargin\0" "prtMarkerEastMargin\0" "prtMarkerStatus\0" "prtMarkerSupplies\0"
+    "prtMarkerSuppliesTable\0" "prtMarkerSuppliesEntry\0" "prtMarkerSuppliesIndex\0" "prtMarkerSuppliesMarkerIndex\0"
+    "prtMarkerSuppliesColorantIndex\0" "prtMarkerSuppliesClass\0", "prtMarkerSuppliesType\0"
+    "prtMarkerSuppliesDescription\0" "prtMarkerSuppliesSupplyUnit\0" "prtMarkerSuppliesMaxCapacity\0"
+    "prtMarkerSuppliesLevel\0" "prtMarkerColorant\0" "prtMarkerColorantTable\0" "prtMarkerColorantEntry\0"
+    "prtMarkerColorantIndex\0" "prtMarkerColorantMarkerIndex\0" "prtMarkerColorantRole\0" "prtMarkerColorantValue\0"
+    "prtMarkerColorantTonality\0" "prtMediaPath\0" "prtMediaPathTable\0" "prtMediaPathEntry\0" "prtMediaPathIndex\0"
+    "prtMediaPathMaxSpeedPrintUnit\0" "prtMediaPathMediaSizeUnit\0" "prtMediaPathMaxSpeed\0"
+    "prtMediaPathMaxMediaFeedDir\0", "prtMediaPathMaxMediaXFeedDir\0" "prtMediaPathMinMediaFeedDir\0"
+    "prtMediaPathMinMediaXFeedDir\0" "prtMediaPathType\0" "prtMediaPathDescription\0" "prtMediaPathStatus\0"
+    "prtChannel\0" "prtChannelTable\0" "prtChannelEntry\0" "prtChannelIndex\0" "prtChannelType\0"
+    "prtChannelProtocolVersion\0" "prtChannelCurrentJobCntlLangIndex\0" "prtChannelDefaultPageDescLangIndex\0"
+    "prtChannelState\0" "prtChannelIfIndex\0" "prtChannelStatus\0" "prtChannelInformation\0" "prtInterpreter\0"
+    "prtInterpreterTable\0" "prtInterpreterEntry\0" "prtInterpreterIndex\0" "prtInterpreterLangFamily\0",
+    "prtInterpreterLangLevel\0" "prtInterpreterLangVersion\0" "prtInterpreterDescription\0" "prtInterpreterVersion\0"
+    "prtInterpreterDefaultOrientation\0" "prtInterpreterFeedAddressability\0" "prtInterpreterXFeedAddressability\0"
+    "prtInterpreterDefaultCharSetIn\0" "prtInterpreterDefaultCharSetOut\0" "prtInterpreterTwoWay\0"
+    "prtConsoleDisplayBuffer\0" "prtConsoleDisplayBufferTable\0" "prtConsoleDisplayBufferEntry\0"
+    "prtConsoleDisplayBufferIndex\0" "prtConsoleDisplayBufferText\0" "prtConsoleLights\0" "prtConsoleLightTable\0"
+    "prtConsoleLightEntry\0" "prtConsoleLightIndex\0", "prtConsoleOnTime\0" "prtConsoleOffTime\0" "prtConsoleColor\0"
+    "prtConsoleDescription\0" "prtAlert\0" "prtAlertTable\0" "prtAlertEntry\0" "prtAlertIndex\0"
+    "prtAlertSeverityLevel\0" "prtAlertTrainingLevel\0" "prtAlertGroupIndex\0" "prtAlertLocation\0" "prtAlertCode\0"
+    "prtAlertDescription\0" "prtAlertTime\0" "printerV1Alert\0" "printerV2AlertPrefix\0" "printerV2Alert\0" "rmon\0"
+    "rmonEventsV2\0" "statistics\0" "etherStatsTable\0" "etherStatsEntry\0" "etherStatsIndex\0" "etherStatsDataSource\0"
+    "etherStatsDropEvents\0" "etherStatsOctets\0" "etherStatsPkts\0" "etherStatsBroadcastPkts\0"
+    "etherStatsMulticastPkts\0", "etherStatsCRCAlignErrors\0" "etherStatsUndersizePkts\0" "etherStatsOversizePkts\0"
+    "etherStatsFragments\0" "etherStatsJabbers\0" "etherStatsCollisions\0" "etherStatsPkts64Octets\0"
+    "etherStatsPkts65to127Octets\0" "etherStatsPkts128to255Octets\0" "etherStatsPkts256to511Octets\0"
+    "etherStatsPkts512to1023Octets\0" "etherStatsPkts1024to1518Octets\0" "etherStatsOwner\0" "etherStatsStatus\0"
+    "history\0" "historyControlTable\0" "historyControlEntry\0" "historyControlIndex\0" "historyControlDataSource\0"
+    "historyControlBucketsRequested\0" "historyControlBucketsGranted\0", "historyControlInterval\0"
+    "historyControlOwner\0" "historyControlStatus\0" "etherHistoryTable\0" "etherHistoryEntry\0" "etherHistoryIndex\0"
+    "etherHistorySampleIndex\0" "etherHistoryIntervalStart\0" "etherHistoryDropEvents\0" "etherHistoryOctets\0"
+    "etherHistoryPkts\0" "etherHistoryBroadcastPkts\0" "etherHistoryMulticastPkts\0" "etherHistoryCRCAlignErrors\0"
+    "etherHistoryUndersizePkts\0" "etherHistoryOversizePkts\0" "etherHistoryFragments\0" "etherHistoryJabbers\0"
+    "etherHistoryCollisions\0" "etherHistoryUtilization\0" "alarm\0" "alarmTable\0" "alarmEntry\0" "alarmIndex\0"
+    "alarmInterval\0", "alarmVariable\0" "alarmSampleType\0" "alarmValue\0" "alarmStartupAlarm\0"
+    "alarmRisingThreshold\0" "alarmFallingThreshold\0" "alarmRisingEventIndex\0" "alarmFallingEventIndex\0"
+    "alarmOwner\0" "alarmStatus\0" "hosts\0" "hostControlTable\0" "hostControlEntry\0" "hostControlIndex\0"
+    "hostControlDataSource\0" "hostControlTableSize\0" "hostControlLastDeleteTime\0" "hostControlOwner\0"
+    "hostControlStatus\0" "hostTable\0" "hostEntry\0" "hostAddress\0" "hostCreationOrder\0" "hostIndex\0" "hostInPkts\0"
+    "hostOutPkts\0" "hostInOctets\0" "hostOutOctets\0" "hostOutErrors\0" "hostOutBroadcastPkts\0"
+    "hostOutMulticastPkts\0", "hostTimeTable\0" "hostTimeEntry\0" "hostTimeAddress\0" "hostTimeCreationOrder\0"
+    "hostTimeIndex\0" "hostTimeInPkts\0" "hostTimeOutPkts\0" "hostTimeInOctets\0" "hostTimeOutOctets\0"
+    "hostTimeOutErrors\0" "hostTimeOutBroadcastPkts\0" "hostTimeOutMulticastPkts\0" "hostTopN\0"
+    "hostTopNControlTable\0" "hostTopNControlEntry\0" "hostTopNControlIndex\0" "hostTopNHostIndex\0"
+    "hostTopNRateBase\0" "hostTopNTimeRemaining\0" "hostTopNDuration\0" "hostTopNRequestedSize\0"
+    "hostTopNGrantedSize\0" "hostTopNStartTime\0" "hostTopNOwner\0" "hostTopNStatus\0" "hostTopNTable\0"
+    "hostTopNEntry\0" "hostTopNReport\0" "hostTopNIndex\0", "hostTopNAddress\0" "hostTopNRate\0" "matrix\0"
+    "matrixControlTable\0" "matrixControlEntry\0" "matrixControlIndex\0" "matrixControlDataSource\0"
+    "matrixControlTableSize\0" "matrixControlLastDeleteTime\0" "matrixControlOwner\0" "matrixControlStatus\0"
+    "matrixSDTable\0" "matrixSDEntry\0" "matrixSDSourceAddress\0" "matrixSDDestAddress\0" "matrixSDIndex\0"
+    "matrixSDPkts\0" "matrixSDOctets\0" "matrixSDErrors\0" "matrixDSTable\0" "matrixDSEntry\0" "matrixDSSourceAddress\0"
+    "matrixDSDestAddress\0" "matrixDSIndex\0" "matrixDSPkts\0" "matrixDSOctets\0" "matrixDSErrors\0" "filter\0"
+    "filterTable\0" "filterEntry\0" "filterIndex\0", "filterChannelIndex\0" "filterPktDataOffset\0" "filterPktData\0"
+    "filterPktDataMask\0" "filterPktDataNotMask\0" "filterPktStatus\0" "filterPktStatusMask\0"
+    "filterPktStatusNotMask\0" "filterOwner\0" "filterStatus\0" "channelTable\0" "channelEntry\0" "channelIndex\0"
+    "channelIfIndex\0" "channelAcceptType\0" "channelDataControl\0" "channelTurnOnEventIndex\0"
+    "channelTurnOffEventIndex\0" "channelEventIndex\0" "channelEventStatus\0" "channelMatches\0" "channelDescription\0"
+    "channelOwner\0" "channelStatus\0" "capture\0" "bufferControlTable\0" "bufferControlEntry\0" "bufferControlIndex\0"
+    "bufferControlChannelIndex\0", "bufferControlFullStatus\0" "bufferControlFullAction\0"
+    "bufferControlCaptureSliceSize\0" "bufferControlDownloadSliceSize\0" "bufferControlDownloadOffset\0"
+    "bufferControlMaxOctetsRequested\0" "bufferControlMaxOctetsGranted\0" "bufferControlCapturedPackets\0"
+    "bufferControlTurnOnTime\0" "bufferControlOwner\0" "bufferControlStatus\0" "captureBufferTable\0"
+    "captureBufferEntry\0" "captureBufferControlIndex\0" "captureBufferIndex\0" "captureBufferPacketID\0"
+    "captureBufferPacketData\0" "captureBufferPacketLength\0" "captureBufferPacketTime\0" "captureBufferPacketStatus\0"
+    "event\0", "eventTable\0" "eventEntry\0" "eventIndex\0" "eventDescription\0" "eventType\0" "eventCommunity\0"
+    "eventLastTimeSent\0" "eventOwner\0" "eventStatus\0" "logTable\0" "logEntry\0" "logEventIndex\0" "logIndex\0"
+    "logTime\0" "logDescription\0" "rmonMibModule\0" "risingAlarm\0" "fallingAlarm\0" "lldpMIB\0" "lldpNotifications\0"
+    "lldpNotificationPrefix\0" "lldpRemTablesChange\0" "lldpObjects\0" "lldpConfiguration\0" "lldpMessageTxInterval\0"
+    "lldpMessageTxHoldMultiplier\0" "lldpReinitDelay\0" "lldpTxDelay\0" "lldpNotificationInterval\0"
+    "lldpPortConfigTable\0" "lldpPortConfigEntry\0" "lldpPortConfigPortNum\0" "lldpPortConfigAdminStatus\0",
+    "lldpPortConfigNotificationEnable\0" "lldpPortConfigTLVsTxEnable\0" "lldpStatistics\0"
     "lldpStatsRemTablesLastChangeTime\0" "lldpStatsRemTablesInserts\0" "lldpStatsRemTablesDeletes\0"
     "lldpStatsRemTablesDrops\0" "lldpStatsRemTablesAgeouts\0" "lldpStatsTxPortTable\0" "lldpStatsRxPortTable\0"
     "lldpLocalSystemData\0" "lldpLocChassisIdSubtype\0" "lldpLocChassisId\0" "lldpLocSysName\0" "lldpLocSysDesc\0"
     "lldpLocSysCapSupported\0" "lldpLocSysCapEnabled\0" "lldpLocPortTable\0" "lldpLocPortEntry\0" "lldpLocPortNum\0"
-    "lldpLocPortIdSubtype\0" "lldpLocPortId\0", "lldpLocPortDesc\0" "lldpLocManAddrTable\0" "lldpLocManAddrEntry\0"
+    "lldpLocPortIdSubtype\0" "lldpLocPortId\0" "lldpLocPortDesc\0" "lldpLocManAddrTable\0", "lldpLocManAddrEntry\0"
     "lldpLocManAddrSubtype\0" "lldpLocManAddr\0" "lldpLocManAddrLen\0" "lldpLocManAddrIfSubtype\0"
     "lldpLocManAddrIfId\0" "lldpLocManAddrOID\0" "lldpRemoteSystemsData\0" "lldpRemTable\0" "lldpRemEntry\0"
     "lldpRemTimeMark\0" "lldpRemLocalPortNum\0" "lldpRemIndex\0" "lldpRemChassisIdSubtype\0" "lldpRemChassisId\0"
     "lldpRemPortIdSubtype\0" "lldpRemPortId\0" "lldpRemPortDesc\0" "lldpRemSysName\0" "lldpRemSysDesc\0"
     "lldpRemSysCapSupported\0" "lldpRemSysCapEnabled\0" "lldpRemManAddrTable\0" "lldpRemManAddrEntry\0"
-    "lldpRemManAddrSubtype\0", "lldpRemManAddr\0" "lldpRemManAddrIfSubtype\0" "lldpRemManAddrIfId\0"
-    "lldpRemManAddrOID\0" "lldpExtensions\0" "GMAC\0" "gmac\0" "whirlpool\0" "is18033-2\0" "id-kem-rsa\0" "iso.1\0"
-    "member-body\0" "ISO Member Body\0" "iso.2\0" "ISO-CN\0" "ISO CN Member Body\0" "oscca\0" "sm-scheme\0" "SM4-ECB\0"
-    "sm4-ecb\0" "SM4-CBC\0" "sm4-cbc\0" "SM4\0" "SM4-OFB\0" "sm4-ofb\0" "SM4-OFB128\0" "SM4-CFB\0" "sm4-cfb\0"
-    "SM4-CFB128\0" "SM4-CFB1\0" "sm4-cfb1\0" "SM4-CFB8\0" "sm4-cfb8\0" "SM4-CTR\0" "sm4-ctr\0" "SM4-GCM\0" "sm4-gcm\0"
-    "SM4-CCM\0" "sm4-ccm\0" "SM4-XTS\0" "sm4-xts\0" "SM2\0" "sm2\0" "sm2p256v1\0" "wapip192v1\0" "SM3\0" "sm3\0"
-    "hmacWithSM3\0" "SM2-SM3\0" "SM2-with-SM3\0" "RSA-SM3\0" "sm3WithRSAEncryption\0", "FRP256v1\0" "CAMELLIA-128-CBC\0"
-    "camellia-128-cbc\0" "CAMELLIA128\0" "id-camellia128-cbc\0" "CAMELLIA-192-CBC\0" "camellia-192-cbc\0"
-    "CAMELLIA192\0" "id-camellia192-cbc\0" "CAMELLIA-256-CBC\0" "camellia-256-cbc\0" "CAMELLIA256\0"
-    "id-camellia256-cbc\0" "id-camellia128-wrap\0" "id-camellia192-wrap\0" "id-camellia256-wrap\0" "KISA\0" "kisa\0"
-    "SEED-ECB\0" "seed-ecb\0" "SEED-CBC\0" "seed-cbc\0" "id-seedCBC\0" "SEED-CFB\0" "seed-cfb\0" "SEED-OFB\0"
-    "seed-ofb\0" "ARIA-128-ECB\0" "aria-128-ecb\0" "ARIA-128-CBC\0" "aria-128-cbc\0" "ARIA128\0" "ARIA-128-CFB\0"
-    "aria-128-cfb\0" "ARIA-128-OFB\0" "aria-128-ofb\0" "ARIA-128-CTR\0" "aria-128-ctr\0" "ARIA-192-ECB\0",
-    "aria-192-ecb\0" "ARIA-192-CBC\0" "aria-192-cbc\0" "ARIA192\0" "ARIA-192-CFB\0" "aria-192-cfb\0" "ARIA-192-OFB\0"
-    "aria-192-ofb\0" "ARIA-192-CTR\0" "aria-192-ctr\0" "ARIA-256-ECB\0" "aria-256-ecb\0" "ARIA-256-CBC\0"
-    "aria-256-cbc\0" "ARIA256\0" "ARIA-256-CFB\0" "aria-256-cfb\0" "ARIA-256-OFB\0" "aria-256-ofb\0" "ARIA-256-CTR\0"
-    "aria-256-ctr\0" "ARIA-128-GCM\0" "aria-128-gcm\0" "ARIA-192-GCM\0" "aria-192-gcm\0" "ARIA-256-GCM\0"
-    "aria-256-gcm\0" "ARIA-128-CCM\0" "aria-128-ccm\0" "ARIA-192-CCM\0" "aria-192-ccm\0" "ARIA-256-CCM\0"
-    "aria-256-ccm\0" "cryptopro\0" "id-GostR3411-94-with-GostR3410-2001\0" "GOST R 34.11-94 with GOST R 34.10-2001\0",
-    "GOSTR341001\0" "id-GostR3411-94-with-GostR3410-94\0" "GOST R 34.11-94 with GOST R 34.10-94\0" "md_gost94\0"
-    "GOST R 34.11-94\0" "GOSTR341194\0" "id-HMACGostR3411-94\0" "HMAC GOST 34.11-94\0"
-    "id-Gost28147-89-None-KeyMeshing\0" "id-Gost28147-89-CryptoPro-KeyMeshing\0" "gost2001\0" "GOST R 34.10-2001\0"
-    "gost94\0" "GOST R 34.10-94\0" "id-GostR3410-94-a\0" "id-GostR3410-94-aBis\0" "id-GostR3410-94-b\0"
-    "id-GostR3410-94-bBis\0" "gost89\0" "GOST 28147-89\0" "gost-mac\0" "GOST 28147-89 MAC\0" "prf-gostr3411-94\0"
-    "GOST R 34.11-94 PRF\0" "id-GostR3411-94-TestParamSet\0" "id-GostR3411-94-CryptoProParamSet\0",
-    "id-Gost28147-89-TestParamSet\0" "id-Gost28147-89-CryptoPro-A-ParamSet\0" "id-Gost28147-89-CryptoPro-B-ParamSet\0"
-    "id-Gost28147-89-CryptoPro-C-ParamSet\0" "id-Gost28147-89-CryptoPro-D-ParamSet\0"
-    "id-Gost28147-89-CryptoPro-Oscar-1-1-ParamSet\0" "id-Gost28147-89-CryptoPro-Oscar-1-0-ParamSet\0"
-    "id-Gost28147-89-CryptoPro-RIC-1-ParamSet\0" "id-GostR3410-94-TestParamSet\0"
-    "id-GostR3410-94-CryptoPro-A-ParamSet\0" "id-GostR3410-94-CryptoPro-B-ParamSet\0"
-    "id-GostR3410-94-CryptoPro-C-ParamSet\0" "id-GostR3410-94-CryptoPro-D-ParamSet\0",
-    "id-GostR3410-94-CryptoPro-XchA-ParamSet\0" "id-GostR3410-94-CryptoPro-XchB-ParamSet\0"
-    "id-GostR3410-94-CryptoPro-XchC-ParamSet\0" "id-GostR3410-2001-TestParamSet\0"
-    "id-GostR3410-2001-CryptoPro-A-ParamSet\0" "id-GostR3410-2001-CryptoPro-B-ParamSet\0"
-    "id-GostR3410-2001-CryptoPro-C-ParamSet\0" "id-GostR3410-2001-CryptoPro-XchA-ParamSet\0"
-    "id-GostR3410-2001-CryptoPro-XchB-ParamSet\0" "id-GostR3410-2001DH\0" "GOST R 34.10-2001 DH\0" "id-GostR3410-94DH\0"
-    "GOST R 34.10-94 DH\0" "cryptocom\0" "id-GostR3411-94-with-GostR3410-94-cc\0",
-    "GOST R 34.11-94 with GOST R 34.10-94 Cryptocom\0" "id-GostR3411-94-with-GostR3410-2001-cc\0"
-    "GOST R 34.11-94 with GOST R 34.10-2001 Cryptocom\0" "gost94cc\0" "GOST 34.10-94 Cryptocom\0" "gost2001cc\0"
-    "GOST 34.10-2001 Cryptocom\0" "id-Gost28147-89-cc\0" "GOST 28147-89 Cryptocom ParamSet\0"
-    "id-GostR3410-2001-ParamSet-cc\0" "GOST R 3410-2001 Parameter Set Cryptocom\0" "INN\0" "id-tc26\0"
-    "id-tc26-algorithms\0" "id-tc26-sign\0" "gost2012_256\0" "GOST R 34.10-2012 with 256 bit modulus\0" "gost2012_512\0"
-    "GOST R 34.10-2012 with 512 bit modulus\0" "id-tc26-digest\0" "md_gost12_256\0",
-    "GOST R 34.11-2012 with 256 bit hash\0" "STREEBOG-256\0" "md_gost12_512\0" "GOST R 34.11-2012 with 512 bit hash\0"
-    "STREEBOG-512\0" "id-tc26-signwithdigest\0" "id-tc26-signwithdigest-gost3410-2012-256\0"
-    "GOST R 34.10-2012 with GOST R 34.11-2012 (256 bit)\0" "GOSTR341012-256\0"
-    "id-tc26-signwithdigest-gost3410-2012-512\0" "GOST R 34.10-2012 with GOST R 34.11-2012 (512 bit)\0"
-    "GOSTR341012-512\0" "id-tc26-mac\0" "id-tc26-hmac-gost-3411-2012-256\0" "HMAC GOST 34.11-2012 256 bit\0"
-    "id-tc26-hmac-gost-3411-2012-512\0" "HMAC GOST 34.11-2012 512 bit\0" "id-tc26-cipher\0",
-    "id-tc26-cipher-gostr3412-2015-magma\0" "magma-ctr-acpkm\0" "magma-ctr-acpkm-omac\0"
-    "id-tc26-cipher-gostr3412-2015-kuznyechik\0" "kuznyechik-ctr-acpkm\0" "kuznyechik-ctr-acpkm-omac\0"
-    "id-tc26-agreement\0" "id-tc26-agreement-gost-3410-2012-256\0" "id-tc26-agreement-gost-3410-2012-512\0"
-    "id-tc26-wrap\0" "id-tc26-wrap-gostr3412-2015-magma\0" "magma-kexp15\0" "id-tc26-wrap-gostr3412-2015-kuznyechik\0"
-    "kuznyechik-kexp15\0" "id-tc26-constants\0" "id-tc26-sign-constants\0" "id-tc26-gost-3410-2012-256-constants\0"
-    "id-tc26-gost-3410-2012-256-paramSetA\0", "GOST R 34.10-2012 (256 bit) ParamSet A\0"
-    "id-tc26-gost-3410-2012-256-paramSetB\0" "GOST R 34.10-2012 (256 bit) ParamSet B\0"
-    "id-tc26-gost-3410-2012-256-paramSetC\0" "GOST R 34.10-2012 (256 bit) ParamSet C\0"
-    "id-tc26-gost-3410-2012-256-paramSetD\0" "GOST R 34.10-2012 (256 bit) ParamSet D\0"
-    "id-tc26-gost-3410-2012-512-constants\0" "id-tc26-gost-3410-2012-512-paramSetTest\0"
-    "GOST R 34.10-2012 (512 bit) testing parameter set\0" "id-tc26-gost-3410-2012-512-paramSetA\0"
-    "GOST R 34.10-2012 (512 bit) ParamSet A\0" "id-tc26-gost-3410-2012-512-paramSetB\0",
-    "GOST R 34.10-2012 (512 bit) ParamSet B\0" "id-tc26-gost-3410-2012-512-paramSetC\0"
-    "GOST R 34.10-2012 (512 bit) ParamSet C\0" "id-tc26-digest-constants\0" "id-tc26-cipher-constants\0"
-    "id-tc26-gost-28147-constants\0" "id-tc26-gost-28147-param-Z\0" "GOST 28147-89 TC26 parameter set\0" "OGRN\0"
-    "SNILS\0" "OGRNIP\0" "subjectSignTool\0" "Signing Tool of Subject\0" "issuerSignTool\0" "Signing Tool of Issuer\0"
-    "classSignTool\0" "Class of Signing Tool\0" "classSignToolKC1\0" "Class of Signing Tool KC1\0" "classSignToolKC2\0"
-    "Class of Signing Tool KC2\0" "classSignToolKC3\0", "Class of Signing Tool KC3\0" "classSignToolKB1\0"
-    "Class of Signing Tool KB1\0" "classSignToolKB2\0" "Class of Signing Tool KB2\0" "classSignToolKA1\0"
-    "Class of Signing Tool KA1\0" "sisLegalGuardianFor\0" "sisSchoolGrade\0" "sisSchoolUnitCode\0" "sisOrgDepartment\0"
-    "e-legnamnden\0" "id-eleg-ce\0" "id-ce-authContext\0" "ISO-UA\0" "ua-pki\0" "dstu28147\0" "DSTU Gost 28147-2009\0"
-    "dstu28147-ofb\0" "DSTU Gost 28147-2009 OFB mode\0" "dstu28147-cfb\0" "DSTU Gost 28147-2009 CFB mode\0"
-    "dstu28147-wrap\0" "DSTU Gost 28147-2009 key wrap\0" "hmacWithDstu34311\0" "HMAC DSTU Gost 34311-95\0"
-    "dstu34311\0", "DSTU Gost 34311-95\0" "dstu4145le\0" "DSTU 4145-2002 little endian\0" "dstu4145be\0"
-    "DSTU 4145-2002 big endian\0" "uacurve0\0" "DSTU curve 0\0" "uacurve1\0" "DSTU curve 1\0" "uacurve2\0"
-    "DSTU curve 2\0" "uacurve3\0" "DSTU curve 3\0" "uacurve4\0" "DSTU curve 4\0" "uacurve5\0" "DSTU curve 5\0"
-    "uacurve6\0" "DSTU curve 6\0" "uacurve7\0" "DSTU curve 7\0" "uacurve8\0" "DSTU curve 8\0" "uacurve9\0"
-    "DSTU curve 9\0" "LDAP_CONTROL_VALUESRETURNFILTER\0" "ISO-US\0" "ISO US Member Body\0" "X9-57\0" "X9.57\0"
-    "holdInstructionNone\0" "Hold Instruction None\0" "holdInstructionCallIssuer\0" "Hold Instruction Call Issuer\0"
-    "holdInstructionReject\0", "Hold Instruction Reject\0" "X9cm\0" "X9.57 CM ?\0" "DSA\0" "dsaEncryption\0"
-    "ANSI X9.57 DSA Signature\0" "id_dsa\0" "DSA-SHA1\0" "dsaWithSHA1\0" "DSA-SHA-1\0" "id-dsa-with-sha1\0"
-    "DSA with SHA-1\0" "SHA1withDSA\0" "DSS\0" "ANSI X9.57 DSA Signature with SHA-1 Digest\0" "sha1_dsa\0"
-    "id_dsa_with_sha1\0" "ANSI X9.62\0" "id-fieldType\0" "prime-field\0" "prime_field\0" "characteristic-two-field\0"
-    "characteristic_two_field\0" "id-characteristic-two-basis\0" "onBasis\0" "gnBasis\0" "tpBasis\0" "ppBasis\0"
-    "id-publicKeyType\0" "EC\0" "ECDSA\0" "EC/ECDSA\0" "X9.62 elliptic curve public key\0" "ecPublicKey\0"
-    "id_ecPublicKey\0" "c-TwoCurve\0", "c2pnb163v1\0" "c2pnb163v2\0" "c2pnb163v3\0" "c2pnb176v1\0" "c2pnb176w1\0"
-    "c2tnb191v1\0" "c2tnb191v2\0" "c2tnb191v3\0" "c2onb191v4\0" "c2onb191v5\0" "c2pnb208w1\0" "c2tnb239v1\0"
-    "c2tnb239v2\0" "c2tnb239v3\0" "c2onb239v4\0" "c2onb239v5\0" "c2pnb272w1\0" "c2pnb304w1\0" "c2tnb359v1\0"
-    "c2pnb368w1\0" "c2tnb431r1\0" "primeCurve\0" "P-192\0" "prime192v1\0" "secp192r1\0" "NIST P-192\0" "P192\0"
-    "nistp192\0" "NIST192p\0" "prime192v2\0" "prime192v3\0" "prime239v1\0" "prime239v2\0" "prime239v3\0" "P-256\0"
-    "prime256v1\0" "nistp256\0" "NIST P-256\0" "P256\0" "NIST256p\0" "id-ecSigType\0" "ecdsa-with-SHA1\0"
-    "ECDSA-SHA-1\0" "ECDSA-SHA1\0" "ECDSA with SHA-1\0" "SHA1withECDSA\0", "X9.62 ECDSA signature with SHA-1\0"
-    "ECDSAWithSHA1\0" "sha1_ecdsa\0" "ecdsa_with_SHA1\0" "ecdsa-with-Recommended\0"
-    "X9.62 ECDSA signature with recommended digest\0" "ecdsa-with-Specified\0" "SpecifiedSHA2withECDSA\0"
-    "X9.62 ECDSA signature with specified digest\0" "ECDSA-SHA2-224\0" "ECDSA-SHA224\0" "SHA224withECDSA\0"
-    "X9.62 ECDSA signature with SHA224\0" "sha224_ecdsa\0" "ecdsa_with_SHA224\0" "ECDSA-SHA2-256\0" "ECDSA-SHA256\0"
-    "ES256\0" "ECDSA with SHA-256\0" "SHA256withECDSA\0" "X9.62 ECDSA signature with SHA256\0" "ECDSAWithSHA256\0"
-    "sha256_ecdsa\0" "ecdsa_with_SHA256\0" "ECDSA-SHA2-384\0", "ECDSA-SHA384\0" "ES384\0" "ECDSA with SHA-384\0"
-    "SHA384withECDSA\0" "X9.62 ECDSA signature with SHA384\0" "ECDSAWithSHA384\0" "sha384_ecdsa\0" "ecdsa_with_SHA384\0"
-    "ECDSA-SHA2-512\0" "ECDSA-SHA512\0" "ES512\0" "ECDSA with SHA-512\0" "SHA512withECDSA\0"
-    "X9.62 ECDSA signature with SHA512\0" "ECDSAWithSHA512\0" "sha512_ecdsa\0" "ecdsa_with_SHA512\0" "X9.42 DH\0"
-    "DHX\0" "dh-public-number\0" "gss_mech_krb5_wrong\0" "MS-KRB5\0" "entrust_version_extension\0" "CAST5-CBC\0"
-    "cast5-cbc\0" "pbeWithMD5AndCast5CBC\0" "password based MAC\0" "Diffie-Hellman based MAC\0" "entrust_user_role\0"
-    "RSA Data Security, Inc.\0", "RSA Data Security, Inc. PKCS\0" "pkcs1\0" "RSA1_5\0" "RSA/ECB/PKCS1Padding\0"
-    "PKCS #1 RSA Encryption\0" "rsassa_pkcs1v15\0" "rsaes_pkcs1v15\0" "RSA-MD2\0" "MD2withRSA\0"
-    "PKCS #1 MD2 With RSA Encryption\0" "MD2-RSA\0" "md2_rsa\0" "RSA-MD4\0" "md4WithRSAEncryption\0"
-    "PKCS #1 MD4 With RSA Encryption\0" "RSA-MD5\0" "MD5 with RSA Encryption\0" "MD5-RSA\0"
-    "PKCS #1 MD5 With RSA Encryption\0" "md5_rsa\0" "RSA-SHA1\0" "RSA-SHA-1\0" "SHA-1 with RSA Encryption\0"
-    "SHA1-RSA\0" "PKCS #1 SHA-1 With RSA Encryption\0" "sha1_rsa\0" "rsaOAEPEncryptionSET\0" "RSAES-OAEP\0"
-    "rsaesOaep\0" "RSA-OAEP\0" "OAEP\0" "PKCS #1 RSA-OAEP Encryption\0", "rsaes_oaep\0" "id_RSAES_OAEP\0" "MGF1\0"
-    "mgf1\0" "PKCS #1 MGF1 Mask Generation Function\0" "PSPECIFIED\0" "pSpecified\0"
-    "PKCS #1 RSA-OAEP Explicitly Specified Encoding Parameters\0" "p_specified\0" "RSASSA-PSS\0" "rsassaPss\0"
-    "RSA-PSS\0" "SHA256-RSAPSS\0" "SHA384-RSAPSS\0" "SHA512-RSAPSS\0" "RSA-PSS-SHA256\0" "RSA-PSS-SHA384\0"
-    "RSA-PSS-SHA512\0" "PKCS #1 RSA-PSS Signature\0" "SHA256WithRSAPSS\0" "SHA384WithRSAPSS\0" "SHA512WithRSAPSS\0"
-    "rsassa_pss\0" "id_RSASSA_PSS\0" "RSA-SHA256\0" "RSA-SHA2-256\0" "RS256\0" "SHA-256 with RSA Encryption\0"
-    "SHA256withRSA\0" "SHA256-RSA\0" "PKCS #1 SHA-256 With RSA Encryption\0", "sha256_rsa\0" "RSA-SHA384\0"
-    "RSA-SHA2-384\0" "RS384\0" "SHA-384 with RSA Encryption\0" "SHA384withRSA\0" "SHA384-RSA\0"
-    "PKCS #1 SHA-384 With RSA Encryption\0" "sha384_rsa\0" "RSA-SHA512\0" "RSA-SHA2-512\0" "RS512\0"
-    "SHA-512 with RSA Encryption\0" "SHA512withRSA\0" "SHA512-RSA\0" "PKCS #1 SHA-512 With RSA Encryption\0"
-    "sha512_rsa\0" "RSA-SHA224\0" "RSA-SHA2-224\0" "SHA224withRSA\0" "PKCS #1 SHA-224 With RSA Encryption\0"
-    "sha224_rsa\0" "RSA-SHA512/224\0" "sha512-224WithRSAEncryption\0" "RSA-SHA2-512/224\0" "RSA-SHA512-224\0"
-    "SHA512/224withRSA\0" "RSA-SHA512/256\0" "sha512-256WithRSAEncryption\0" "RSA-SHA2-512/256\0", "RSA-SHA512-256\0"
-    "SHA512/256withRSA\0" "pkcs3\0" "dhKeyAgreement\0" "DH\0" "DiffieHellman\0" "pkcs5\0" "pkcs-5\0" "PBE-MD2-DES\0"
-    "pbeWithMD2AndDES-CBC\0" "pbes1_md2_des\0" "PBE-MD5-DES\0" "pbeWithMD5AndDES-CBC\0" "PBEWithMD5AndDES\0"
-    "pbes1_md5_des\0" "PBE-MD2-RC2-64\0" "pbeWithMD2AndRC2-CBC\0" "pbes1_md2_rc2\0" "PBE-MD5-RC2-64\0"
-    "pbeWithMD5AndRC2-CBC\0" "PBEWithMD5AndRC2\0" "pbes1_md5_rc2\0" "PBE-SHA1-DES\0" "pbeWithSHA1AndDES-CBC\0"
-    "PBEWithSHA1AndDES\0" "pbes1_sha1_des\0" "PBE-SHA1-RC2-64\0" "pbeWithSHA1AndRC2-CBC\0" "PBEWithSHA1AndRC2\0"
-    "pbes1_sha1_rc2\0" "PBKDF2\0" "PBKDF2WithHmacSHA1\0", "PKCS #5 Password Based Key Dervive Function v2\0"
-    "id_PBKDF2\0" "PBES2\0" "id-PBES2\0" "PKCS #5 Password Based Encryption v2\0" "id_PBES2\0" "PBMAC1\0" "id-PBMAC1\0"
-    "PKCS #5 Password Based Authentication v1\0" "id_PBMAC1\0" "pkcs7\0" "pkcs-7\0" "PKCS #7\0" "pkcs7-data\0"
-    "PKCS #7 Data\0" "id_data\0" "pkcs7-signedData\0" "signedData\0" "PKCS #7 Signed Data\0" "signed_data\0"
-    "id_signedData\0" "pkcs7-envelopedData\0" "envelopedData\0" "PKCS #7 Enveloped Data\0" "enveloped_data\0"
-    "id_envelopedData\0" "pkcs7-signedAndEnvelopedData\0" "signedAndEnvelopedData\0"
-    "PKCS #7 Signed And Enveloped Data\0", "signed_and_enveloped_data\0" "pkcs7-digestData\0" "digestedData\0"
-    "PKCS #7 Digested Data\0" "digested_data\0" "id_digestedData\0" "pkcs7-encryptedData\0" "encryptedData\0"
-    "PKCS #7 Encrypted Data\0" "encrypted_data\0" "id_encryptedData\0" "pkcs9\0" "id-emailAddress\0" "pkcs9email\0"
-    "E\0" "Email Address\0" "PKCS #9 Email Address\0" "email_address\0" "unstructuredName\0" "contentType\0"
-    "PKCS #9 Content Type\0" "content_type\0" "id_contentType\0" "messageDigest\0" "PKCS #9 Message Digest\0"
-    "message_digest\0" "id_messageDigest\0" "signingTime\0" "PKCS #9 Signing Time\0" "signing_time\0" "id_signingTime\0"
-    "countersignature\0", "PKCS #9 Counter Signature\0" "counter_signature\0" "challengePassword\0"
-    "challenge_password\0" "unstructuredAddress\0" "extendedCertificateAttributes\0" "extended_certificate_attributes\0"
-    "IssuerAndSerialNumber\0" "extReq\0" "Extension Request\0" "ExtensionRequest\0" "PKCS #9 Extension Request\0"
-    "extension_request\0" "SMIME-CAPS\0" "S/MIME Capabilities\0" "SMIMECapability\0" "PKCS #9 S/MIME Capabilities\0"
-    "smime_capabilities\0" "S/MIME\0" "id-smime-mod\0" "id-smime-mod-cms\0" "id-smime-mod-ess\0" "id-smime-mod-oid\0"
-    "id-smime-mod-msg-v3\0" "id-smime-mod-ets-eSignature-88\0", "id-smime-mod-ets-eSignature-97\0"
-    "id-smime-mod-ets-eSigPolicy-88\0" "id-smime-mod-ets-eSigPolicy-97\0" "id-smime-ct\0" "id-ct-anyContentType\0"
-    "id-smime-ct-receipt\0" "receipt\0" "id-smime-ct-authData\0" "AuthenticatedData\0" "authData\0"
-    "authenticated_data\0" "id-smime-ct-publishCert\0" "id-smime-ct-TSTInfo\0" "TSTInfo\0" "TimeStampTokenInfo\0"
-    "tst_info\0" "id_ct_TSTInfo\0" "id-smime-ct-TDTInfo\0" "id-smime-ct-contentInfo\0" "ContentInfo\0"
-    "id_ct_contentInfo\0" "id-smime-ct-DVCSRequestData\0" "id-smime-ct-DVCSResponseData\0"
-    "id-smime-ct-compressedData\0" "CompressedData\0" "compressed_data\0", "firmwarePackage\0"
-    "id-smime-ct-contentCollection\0" "id-smime-ct-authEnvelopedData\0" "AuthEnvelopedData\0"
-    "authenticated_enveloped_data\0" "id-ct-routeOriginAuthz\0" "id-ct-rpkiManifest\0" "id-ct-asciiTextWithCRLF\0"
-    "id-ct-xml\0" "id-ct-pdf\0" "id-ct-postscript\0" "timestamped_data\0" "id-ct-trustAnchorList\0"
-    "id-ct-rpkiGhostbusters\0" "id-ct-resourceTaggedAttest\0" "id-ct-utf8TextWithCRLF\0" "id-ct-htmlWithCRLF\0"
-    "id-ct-epub\0" "id-ct-mudtype\0" "id-ct-cbor\0" "id-ct-cborSequence\0" "id-ct-geofeedCSVwithCRLF\0"
-    "id-ct-signedChecklist\0" "id-ct-ASPA\0" "id-ct-signedTAL\0", "id-ct-rpkiSignedPrefixList\0" "id-smime-aa\0"
-    "id-smime-aa-receiptRequest\0" "receiptRequest\0" "id-smime-aa-securityLabel\0" "securityLabel\0"
-    "id-smime-aa-mlExpandHistory\0" "mlExpandHistory\0" "id-smime-aa-contentHint\0" "contentHint\0"
-    "id-smime-aa-msgSigDigest\0" "msgSigDigest\0" "id-smime-aa-encapContentType\0" "id-smime-aa-contentIdentifier\0"
-    "contentIdentifier\0" "id-smime-aa-macValue\0" "id-smime-aa-equivalentLabels\0" "equivalentLabels\0"
-    "id-smime-aa-contentReference\0" "contentReference\0" "id-smime-aa-encrypKeyPref\0" "encrypKeyPref\0"
-    "encrypt_key_pref\0", "id-smime-aa-signingCertificate\0" "signingCertificate\0" "signing_certificate\0"
-    "id_aa_signingCertificate\0" "id-smime-aa-smimeEncryptCerts\0" "id-smime-aa-timeStampToken\0" "timeStampToken\0"
-    "id-aa-signatureTimeStampToken\0" "SignatureTimestampToken\0" "signature_time_stamp_token\0"
-    "id-smime-aa-ets-sigPolicyId\0" "id-aa-ets-sigPolicyId\0" "id-smime-aa-ets-commitmentType\0"
-    "id-aa-ets-commitmentType\0" "id-smime-aa-ets-signerLocation\0" "id-aa-ets-signerLocation\0"
-    "id-smime-aa-ets-signerAttr\0" "id-aa-ets-signerAttr\0" "id-smime-aa-ets-otherSigCert\0", "id-aa-ets-otherSigCert\0"
-    "id-smime-aa-ets-contentTimestamp\0" "id-aa-ets-contentTimestamp\0" "id-smime-aa-ets-CertificateRefs\0"
-    "id-aa-ets-certificateRefs\0" "id-smime-aa-ets-RevocationRefs\0" "id-aa-ets-revocationRefs\0"
-    "id-smime-aa-ets-certValues\0" "id-aa-ets-certValues\0" "id-smime-aa-ets-revocationValues\0"
-    "id-aa-ets-revocationValues\0" "id-smime-aa-ets-escTimeStamp\0" "id-aa-ets-escTimeStamp\0"
-    "id-smime-aa-ets-certCRLTimestamp\0" "id-aa-ets-certCRLTimestamp\0" "id-smime-aa-ets-archiveTimeStamp\0"
-    "id-smime-aa-signatureType\0" "id-smime-aa-dvcs-dvc\0", "id-aa-fwPkgMessageDigest\0"
-    "id-aa-ets-attrCertificateRefs\0" "id-aa-ets-attrRevocationRefs\0" "id-smime-aa-signingCertificateV2\0"
-    "signingCertificateV2\0" "signing_certificate_v2\0" "id_aa_signingCertificateV2\0" "id-aa-ets-archiveTimestampV2\0"
-    "id-aa-asymmDecryptKeyID\0" "id-aa-secureHeaderFieldsIdentifier\0" "id-aa-otpChallenge\0"
-    "id-aa-revocationChallenge\0" "id-aa-estIdentityLinking\0" "id-smime-alg\0" "id-smime-alg-ESDHwith3DES\0"
-    "id-smime-alg-ESDHwithRC2\0" "id-smime-alg-3DESwrap\0" "id-smime-alg-RC2wrap\0" "id-smime-alg-ESDH\0"
-    "id-smime-alg-CMS3DESwrap\0" "DES3-WRAP\0", "id-smime-alg-CMSRC2wrap\0" "ZLIB\0" "zlib compression\0"
-    "id-alg-PWRI-KEK\0" "id-alg-MD5-XOR-EXPERIMENT\0" "id-rsa-kem\0" "id-alg-hss-lms-hashsig\0"
-    "id-alg-AEADChaCha20Poly1305\0" "CHACHA20-POLY1305\0" "dhSinglePass-stdDH-hkdf-sha256-scheme\0"
-    "dhSinglePass-stdDH-hkdf-sha384-scheme\0" "dhSinglePass-stdDH-hkdf-sha512-scheme\0" "id-alg-hkdf-with-sha256\0"
-    "HKDF-SHA256\0" "id-alg-hkdf-with-sha384\0" "HKDF-SHA384\0" "id-alg-hkdf-with-sha512\0" "HKDF-SHA512\0"
-    "id-smime-cd\0" "id-smime-cd-ldap\0" "id-smime-spq\0" "id-smime-spq-ets-sqt-uri\0" "id-smime-spq-ets-sqt-unotice\0"
-    "id-smime-cti\0", "id-smime-cti-ets-proofOfOrigin\0" "id-smime-cti-ets-proofOfReceipt\0"
-    "id-smime-cti-ets-proofOfDelivery\0" "id-smime-cti-ets-proofOfSender\0" "id-smime-cti-ets-proofOfApproval\0"
-    "id-smime-cti-ets-proofOfCreation\0" "id-smime-ori\0" "id-smime-ori-kem\0" "friendlyName\0"
-    "PKCS #9 Friendly Name\0" "friendly_name\0" "localKeyID\0" "PKCS #9 Local Key ID\0" "local_key_id\0"
-    "x509Certificate\0" "CertTypeX509\0" "sdsiCertificate\0" "sdsi\0" "x509Crl\0" "id-aa-CMSAlgorithmProtection\0"
-    "cmsAlgorithmProtect\0" "id-aa-cmsAlgorithmProtect\0" "CMSAlgorithmProtection\0" "cms_algorithm_protection\0"
-    "PKCS #12\0", "PBE-SHA1-RC4-128\0" "pbeWithSHA1And128BitRC4\0" "PBEWithSHA1AndRC4_128\0" "pkcs12_sha1_rc4_128\0"
-    "PBE-SHA1-RC4-40\0" "pbeWithSHA1And40BitRC4\0" "PBEWithSHA1AndRC4_40\0" "pkcs12_sha1_rc4_40\0" "PBE-SHA1-3DES\0"
-    "pbeWithSHA1And3-KeyTripleDES-CBC\0" "PBEWithSHA1AndDESede\0" "pkcs12_sha1_tripledes_3key\0" "PBE-SHA1-2DES\0"
-    "pbeWithSHA1And2-KeyTripleDES-CBC\0" "pkcs12_sha1_tripledes_2key\0" "PBE-SHA1-RC2-128\0"
-    "pbeWithSHA1And128BitRC2-CBC\0" "PBEWithSHA1AndRC2_128\0" "pkcs12_sha1_rc2_128\0" "PBE-SHA1-RC2-40\0"
-    "pbeWithSHA1And40BitRC2-CBC\0" "PBEWithSHA1AndRC2_40\0" "pkcs12_sha1_rc2_40\0" "keyBag\0", "id-keyBag\0" "key_bag\0"
-    "pkcs8ShroudedKeyBag\0" "id-pkcs8ShroudedKeyBag\0" "pkcs8_shrouded_key_bag\0" "certBag\0" "id-certBag\0"
-    "cert_bag\0" "id_certBag\0" "crlBag\0" "id-CRLBag\0" "crl_bag\0" "secretBag\0" "id-secretBag\0" "secret_bag\0"
-    "safeContentsBag\0" "id-safeContentsBag\0" "safe_contents\0" "MD2\0" "md2\0" "MD4\0" "md4\0" "MD5\0" "md5\0"
-    "SSL3-MD5\0" "hmacWithMD5\0" "hmacWithSHA1\0" "id-hmacWithSHA1\0" "HmacSHA1\0" "HMAC SHA-1\0" "hmacWithSHA224\0"
-    "HmacSHA224\0" "HMAC SHA-224\0" "HMAC-SHA224\0" "hmacWithSHA256\0" "HS256\0" "HmacSHA256\0" "HMAC SHA-256\0"
-    "HMAC-SHA256\0" "hmacWithSHA384\0" "HS384\0" "HmacSHA384\0" "HMAC SHA-384\0" "HMAC-SHA384\0" "hmacWithSHA512\0",
-    "HS512\0" "HmacSHA512\0" "HMAC SHA-512\0" "HMAC-SHA512\0" "hmacWithSHA512-224\0" "id-hmacWithSHA512-224\0"
-    "HmacSHA512/224\0" "hmacWithSHA512-256\0" "id-hmacWithSHA512-256\0" "HmacSHA512/256\0" "encryptionAlgorithm\0"
-    "rc2CBC\0" "RC2/CBC/PKCS5Padding\0" "rc2\0" "RC4\0" "rc4\0" "ARCFOUR\0" "DES3\0" "DESede/CBC/NoPadding\0"
-    "tripledes_3key\0" "RC5-CBC\0" "rc5-cbc\0" "rc5-CBC-PAD\0" "RC5/CBC/PKCS5Padding\0" "rc5\0" "DES-CDMF\0"
-    "des-cdmf\0" "gssapi\0" "GSS_C_NT_USER_NAME\0" "GSS_KRB5_NT_USER_NAME\0" "GSS_C_NT_MACHINE_UID_NAME\0"
-    "GSS_C_NT_STRING_UID_NAME\0" "GSS_C_NT_HOSTBASED_SERVICE\0" "GSS_KRB5_NT_HOSTBASED_SERVICE_NAME\0" "krb5\0",
-    "gss_mech_krb5\0" "GSS_KRB5_NT_PRINCIPAL_NAME\0" "GSS_KRB5_NT_ENTERPRISE_NAME\0" "GSS_KRB5_NT_X509_CERT\0"
-    "krbCanonicalName\0" "krbPwdAttributes\0" "krbPwdMaxLife\0" "krbPwdMaxRenewableLife\0" "krbPwdAllowedKeysalts\0"
-    "instanceType\0" "whenCreated\0" "whenChanged\0" "hasMasterNCs\0" "otherTelephone\0" "uSNCreated\0" "subClassOf\0"
-    "governsID\0" "rDNAttID\0" "attributeID\0" "attributeSyntax\0" "isSingleValued\0" "isDeleted\0"
-    "tombstoneLifetime\0" "objectVersion\0" "memberOf\0" "invocationId\0" "otherPager\0" "uSNChanged\0" "department\0"
-    "company\0" "showInAdvancedViewOnly\0" "adminDisplayName\0" "proxyAddresses\0" "dSHeuristics\0",
-    "adminDescription\0" "oMSyntax\0" "otherHomePhone\0" "nTSecurityDescriptor\0" "searchFlags\0"
-    "objectClassCategory\0" "directReports\0" "lDAPDisplayName\0" "wWWHomePage\0" "crossRef\0" "container\0"
-    "computer\0" "objectGUID\0" "userAccountControl\0" "badPwdCount\0" "codePage\0" "countryCode\0" "employeeID\0"
-    "homeDrive\0" "badPasswordTime\0" "lastLogoff\0" "lastLogon\0" "dBCSPwd\0" "localeID\0" "lockoutDuration\0"
-    "lockOutObservationWindow\0" "scriptPath\0" "logonHours\0" "lockoutThreshold\0" "maxPwdAge\0" "minPwdAge\0"
-    "minPwdLength\0" "userWorkstations\0" "nETBIOSName\0" "unicodePwd\0" "pwdProperties\0" "pwdHistoryLength\0"
-    "pwdLastSet\0", "primaryGroupID\0" "supplementalCredentials\0" "trustDirection\0" "trustPartner\0" "trustType\0"
-    "userParameters\0" "profilePath\0" "objectSid\0" "schemaIDGUID\0" "adminCount\0" "comment\0" "accountExpires\0"
-    "logonCount\0" "sAMAccountName\0" "division\0" "sAMAccountType\0" "options\0" "LDAP_CONTROL_PAGEDRESULTS\0"
-    "operatingSystem\0" "operatingSystemVersion\0" "operatingSystemServicePack\0" "fSMORoleOwner\0" "systemFlags\0"
-    "dnsRecord\0" "operatingSystemHotfix\0" "LDAP_CONTROL_X_SHOW_DELETED\0" "trustAttributes\0"
-    "LDAP_CONTROL_SORTREQUEST\0" "LDAP_CONTROL_SORTRESPONSE\0" "flatName\0" "siteObject\0",
-    "LDAP_CONTROL_X_SERVER_NOTIFICATION\0" "LDAP_CONTROL_X_EXTENDED_DN\0" "sIDHistory\0" "wellKnownObjects\0"
-    "LDAP_CONTROL_X_LAZY_COMMIT\0" "dNSHostName\0" "showInAddressBook\0" "otherFacsimileTelephoneNumber\0"
-    "otherMobile\0" "assistant\0" "managedBy\0" "managedObjects\0" "legacyExchangeDN\0" "userPrincipalName\0"
-    "lockoutTime\0" "rootTrust\0" "ipPhone\0" "otherIpPhone\0" "url\0" "groupType\0" "servicePrincipalName\0"
-    "lastKnownParent\0" "objectCategory\0" "LDAP_CONTROL_X_INCREMENTAL_VALUES\0" "integerBitAndMatch\0"
-    "LDAP_MATCHING_RULE_BIT_AND\0" "integerBitOrMatch\0" "LDAP_MATCHING_RULE_BIT_OR\0", "LDAP_CONTROL_X_TREE_DELETE\0"
-    "certificateTemplates\0" "LDAP_CONTROL_X_DIRSYNC\0" "altSecurityIdentities\0" "isCriticalSystemObject\0"
-    "uPNSuffixes\0" "gPLink\0" "gPOptions\0" "gPCFileSysPath\0" "allowedChildClasses\0" "allowedChildClassesEffective\0"
-    "allowedAttributes\0" "allowedAttributesEffective\0" "canonicalName\0" "msNPAllowDialin\0" "tokenGroups\0"
-    "tokenGroupsNoGCAcceptable\0" "sDRightsEffective\0" "pKIDefaultKeySpec\0" "pKIMaxIssuingDepth\0"
-    "pKIExtendedKeyUsage\0" "pKIDefaultCSPs\0" "LDAP_CONTROL_X_DOMAIN_SCOPE\0" "LDAP_CONTROL_X_SEARCH_OPTIONS\0"
-    "gPCMachineExtensionNames\0", "gPCUserExtensionNames\0" "otherWellKnownObjects\0" "mS-DS-ConsistencyGuid\0"
-    "mS-DS-CreatorSID\0" "ms-DS-MachineAccountQuota\0" "primaryGroupToken\0" "LDAP_CONTROL_X_PERMISSIVE_MODIFY\0"
-    "tokenGroupsGlobalAndUniversal\0" "msPKI-RA-Signature\0" "msPKI-Enrollment-Flag\0" "msPKI-Certificate-Name-Flag\0"
-    "msPKI-Minimal-Key-Size\0" "msPKI-Template-Schema-Version\0" "msPKI-Cert-Template-OID\0" "msDS-Behavior-Version\0"
-    "msDS-User-Account-Control-Computed\0" "msPKI-Certificate-Application-Policy\0" "lastLogonTimestamp\0"
-    "msDS-ReplAttributeMetaData\0" "msDS-AdditionalDnsHostName\0", "msDS-KeyVersionNumber\0"
-    "msDS-AllowedToDelegateTo\0" "msDS-hasMasterNCs\0" "msDS-PrincipalName\0" "LDAP_MATCHING_RULE_TRANSITIVE_EVAL\0"
-    "LDAP_MATCHING_RULE_IN_CHAIN\0" "msDS-isGC\0" "msDS-isRODC\0" "msDS-SiteName\0" "msDS-SupportedEncryptionTypes\0"
-    "msDS-LastSuccessfulInteractiveLogonTime\0" "msTSProfilePath\0" "msTSHomeDirectory\0" "msTSAllowLogon\0"
-    "msDS-UserPasswordExpiryTimeComputed\0" "msDS-PSOApplied\0" "msDS-ResultantPSO\0" "isRecycled\0" "builtinDomain\0"
-    "securityPrincipal\0" "group\0" "user\0" "contact\0" "server\0" "printQueue\0" "site\0" "trustedDomain\0" "volume\0"
-    "domainDNS\0", "foreignSecurityPrincipal\0" "subnet\0" "serviceConnectionPoint\0" "groupPolicyContainer\0"
-    "pKICertificateTemplate\0" "pKIEnrollmentService\0" "msDS-ManagedServiceAccount\0" "nTDSDSA\0" "msSFU30Name\0"
-    "msSFU30NisDomain\0" "msSFU30PosixMember\0" "pdf_signing\0" "adobe_revocation_info_archival\0" "adobe_timestamp\0"
-    "adobe_archive_rev_info\0" "adobe_ppklite_credential\0" "apple_x509_basic\0" "apple_ssl\0" "apple_local_cert_gen\0"
-    "apple_csr_gen\0" "apple_revocation_crl\0" "apple_revocation_ocsp\0" "apple_smime\0" "apple_eap\0"
-    "apple_software_update_signing\0" "apple_ipsec\0" "apple_ichat\0", "apple_resource_signing\0"
-    "apple_pkinit_client\0" "apple_pkinit_server\0" "apple_code_signing\0" "apple_package_signing\0"
-    "apple_id_validation\0" "apple_time_stamping\0" "apple_revocation\0" "apple_passbook_signing\0"
-    "apple_mobile_store\0" "apple_escrow_service\0" "apple_profile_signer\0" "apple_qa_profile_signer\0"
-    "apple_test_mobile_store\0" "apple_otapki_signer\0" "apple_test_otapki_signer\0" "apple_server_authentication\0"
-    "apple_pcs_escrow_service\0" "org\0" "ORG\0" "identified-organization\0" "iso.3\0" "gss_mech_krb5_old\0" "dod\0"
-    "DOD\0" "internet\0" "IANA\0" "iana\0" "directory\0" "Directory\0" "uidNumber\0", "gidNumber\0" "gecos\0"
-    "homeDirectory\0" "unixHomeDirectory\0" "loginShell\0" "shadowLastChange\0" "shadowMin\0" "shadowMax\0"
-    "shadowWarning\0" "shadowInactive\0" "shadowExpire\0" "shadowFlag\0" "memberUid\0" "memberNisNetgroup\0"
-    "nisNetgroupTriple\0" "ipServicePort\0" "ipServiceProtocol\0" "ipProtocolNumber\0" "oncRpcNumber\0" "ipHostNumber\0"
-    "ipNetworkNumber\0" "ipNetmaskNumber\0" "macAddress\0" "bootParameter\0" "bootFile\0" "nisMapName\0" "nisMapEntry\0"
-    "automountMapName\0" "automountKey\0" "automountInformation\0" "posixAccount\0" "shadowAccount\0" "posixGroup\0"
-    "ipService\0" "ipProtocol\0" "oncRpc\0" "ipHost\0" "ipNetwork\0" "nisNetgroup\0", "nisMap\0" "nisObject\0"
-    "ieee802Device\0" "bootableDevice\0" "automountMap\0" "automount\0" "vendorName\0" "vendorVersion\0"
-    "LDAP_EXOP_CANCEL\0" "LDAP_CONTROL_ASSERT\0" "LDAP_CONTROL_PRE_READ\0" "LDAP_CONTROL_POST_READ\0"
-    "LDAP_FEATURE_MODIFY_INCREMENT\0" "LDAP_EXOP_TURN\0" "LDAP_TXN\0" "LDAP_CONTROL_DONTUSECOPY\0" "mgmt\0"
-    "Management\0" "mib-2\0" "system\0" "sysDescr\0" "sysObjectID\0" "sysUpTime\0" "sysUpTimeInstance\0" "sysContact\0"
-    "sysName\0" "sysLocation\0" "sysServices\0" "sysORLastChange\0" "sysORTable\0" "sysOREntry\0" "sysORIndex\0"
-    "sysORID\0" "sysORDescr\0" "sysORUpTime\0" "interfaces\0" "ifNumber\0" "ifTable\0" "ifEntry\0" "ifIndex\0"
-    "ifDescr\0", "ifType\0" "ifMtu\0" "ifSpeed\0" "ifPhysAddress\0" "ifAdminStatus\0" "ifOperStatus\0" "ifLastChange\0"
-    "ifInOctets\0" "ifInUcastPkts\0" "ifInNUcastPkts\0" "ifInDiscards\0" "ifInErrors\0" "ifInUnknownProtos\0"
-    "ifOutOctets\0" "ifOutUcastPkts\0" "ifOutNUcastPkts\0" "ifOutDiscards\0" "ifOutErrors\0" "ifOutQLen\0"
-    "ifSpecific\0" "at\0" "atTable\0" "atEntry\0" "atIfIndex\0" "atPhysAddress\0" "atNetAddress\0" "ip\0"
-    "ipForwarding\0" "ipDefaultTTL\0" "ipInReceives\0" "ipInHdrErrors\0" "ipInAddrErrors\0" "ipForwDatagrams\0"
-    "ipInUnknownProtos\0" "ipInDiscards\0" "ipInDelivers\0" "ipOutRequests\0" "ipOutDiscards\0" "ipOutNoRoutes\0"
-    "ipReasmTimeout\0" "ipReasmReqds\0", "ipReasmOKs\0" "ipReasmFails\0" "ipFragOKs\0" "ipFragFails\0" "ipFragCreates\0"
-    "ipAddrTable\0" "ipAddrEntry\0" "ipAdEntAddr\0" "ipAdEntIfIndex\0" "ipAdEntNetMask\0" "ipAdEntBcastAddr\0"
-    "ipAdEntReasmMaxSize\0" "ipRouteTable\0" "ipRouteEntry\0" "ipRouteDest\0" "ipRouteIfIndex\0" "ipRouteMetric1\0"
-    "ipRouteMetric2\0" "ipRouteMetric3\0" "ipRouteMetric4\0" "ipRouteNextHop\0" "ipRouteType\0" "ipRouteProto\0"
-    "ipRouteAge\0" "ipRouteMask\0" "ipRouteMetric5\0" "ipRouteInfo\0" "ipNetToMediaTable\0" "ipNetToMediaEntry\0"
-    "ipNetToMediaIfIndex\0" "ipNetToMediaPhysAddress\0" "ipNetToMediaNetAddress\0" "ipNetToMediaType\0"
-    "ipRoutingDiscards\0", "ipForward\0" "ipForwardNumber\0" "ipForwardTable\0" "ipForwardEntry\0" "ipForwardDest\0"
-    "ipForwardMask\0" "ipForwardPolicy\0" "ipForwardNextHop\0" "ipForwardIfIndex\0" "ipForwardType\0" "ipForwardProto\0"
-    "ipForwardAge\0" "ipForwardInfo\0" "ipForwardNextHopAS\0" "ipForwardMetric1\0" "ipForwardMetric2\0"
-    "ipForwardMetric3\0" "ipForwardMetric4\0" "ipForwardMetric5\0" "ipCidrRouteNumber\0" "ipCidrRouteTable\0"
-    "ipCidrRouteEntry\0" "ipCidrRouteDest\0" "ipCidrRouteMask\0" "ipCidrRouteTos\0" "ipCidrRouteNextHop\0"
-    "ipCidrRouteIfIndex\0" "ipCidrRouteType\0" "ipCidrRouteProto\0" "ipCidrRouteAge\0" "ipCidrRouteInfo\0",
-    "ipCidrRouteNextHopAS\0" "ipCidrRouteMetric1\0" "ipCidrRouteMetric2\0" "ipCidrRouteMetric3\0" "ipCidrRouteMetric4\0"
-    "ipCidrRouteMetric5\0" "ipCidrRouteStatus\0" "inetCidrRouteNumber\0" "inetCidrRouteTable\0" "inetCidrRouteEntry\0"
-    "inetCidrRouteDestType\0" "inetCidrRouteDest\0" "inetCidrRoutePfxLen\0" "inetCidrRoutePolicy\0"
-    "inetCidrRouteNextHopType\0" "inetCidrRouteNextHop\0" "inetCidrRouteIfIndex\0" "inetCidrRouteType\0"
-    "inetCidrRouteProto\0" "inetCidrRouteAge\0" "inetCidrRouteNextHopAS\0" "inetCidrRouteMetric1\0"
-    "inetCidrRouteMetric2\0" "inetCidrRouteMetric3\0" "inetCidrRouteMetric4\0", "inetCidrRouteMetric5\0"
-    "inetCidrRouteStatus\0" "inetCidrRouteDiscards\0" "ipv6IpForwarding\0" "ipv6IpDefaultHopLimit\0"
-    "ipv4InterfaceTableLastChange\0" "ipv4InterfaceTable\0" "ipv4InterfaceEntry\0" "ipv4InterfaceIfIndex\0"
-    "ipv4InterfaceReasmMaxSize\0" "ipv4InterfaceEnableStatus\0" "ipv4InterfaceRetransmitTime\0"
-    "ipv6InterfaceTableLastChange\0" "ipv6InterfaceTable\0" "ipv6InterfaceEntry\0" "ipv6InterfaceIfIndex\0"
-    "ipv6InterfaceReasmMaxSize\0" "ipv6InterfaceIdentifier\0" "ipv6InterfaceEnableStatus\0"
-    "ipv6InterfaceReachableTime\0" "ipv6InterfaceRetransmitTime\0", "ipv6InterfaceForwarding\0" "ipTrafficStats\0"
-    "ipSystemStatsTable\0" "ipSystemStatsEntry\0" "ipSystemStatsIPVersion\0" "ipSystemStatsInReceives\0"
-    "ipSystemStatsHCInReceives\0" "ipSystemStatsInOctets\0" "ipSystemStatsHCInOctets\0" "ipSystemStatsInHdrErrors\0"
-    "ipSystemStatsInNoRoutes\0" "ipSystemStatsInAddrErrors\0" "ipSystemStatsInUnknownProtos\0"
-    "ipSystemStatsInTruncatedPkts\0" "ipSystemStatsInForwDatagrams\0" "ipSystemStatsHCInForwDatagrams\0"
-    "ipSystemStatsReasmReqds\0" "ipSystemStatsReasmOKs\0" "ipSystemStatsReasmFails\0" "ipSystemStatsInDiscards\0"
-    "ipSystemStatsInDelivers\0", "ipSystemStatsHCInDelivers\0" "ipSystemStatsOutRequests\0"
-    "ipSystemStatsHCOutRequests\0" "ipSystemStatsOutNoRoutes\0" "ipSystemStatsOutForwDatagrams\0"
-    "ipSystemStatsHCOutForwDatagrams\0" "ipSystemStatsOutDiscards\0" "ipSystemStatsOutFragReqds\0"
-    "ipSystemStatsOutFragOKs\0" "ipSystemStatsOutFragFails\0" "ipSystemStatsOutFragCreates\0"
-    "ipSystemStatsOutTransmits\0" "ipSystemStatsHCOutTransmits\0" "ipSystemStatsOutOctets\0"
-    "ipSystemStatsHCOutOctets\0" "ipSystemStatsInMcastPkts\0" "ipSystemStatsHCInMcastPkts\0"
-    "ipSystemStatsInMcastOctets\0" "ipSystemStatsHCInMcastOctets\0", "ipSystemStatsOutMcastPkts\0"
-    "ipSystemStatsHCOutMcastPkts\0" "ipSystemStatsOutMcastOctets\0" "ipSystemStatsHCOutMcastOctets\0"
-    "ipSystemStatsInBcastPkts\0" "ipSystemStatsHCInBcastPkts\0" "ipSystemStatsOutBcastPkts\0"
-    "ipSystemStatsHCOutBcastPkts\0" "ipSystemStatsDiscontinuityTime\0" "ipSystemStatsRefreshRate\0"
-    "ipIfStatsTableLastChange\0" "ipIfStatsTable\0" "ipIfStatsEntry\0" "ipIfStatsIPVersion\0" "ipIfStatsIfIndex\0"
-    "ipIfStatsInReceives\0" "ipIfStatsHCInReceives\0" "ipIfStatsInOctets\0" "ipIfStatsHCInOctets\0"
-    "ipIfStatsInHdrErrors\0" "ipIfStatsInNoRoutes\0" "ipIfStatsInAddrErrors\0", "ipIfStatsInUnknownProtos\0"
-    "ipIfStatsInTruncatedPkts\0" "ipIfStatsInForwDatagrams\0" "ipIfStatsHCInForwDatagrams\0" "ipIfStatsReasmReqds\0"
-    "ipIfStatsReasmOKs\0" "ipIfStatsReasmFails\0" "ipIfStatsInDiscards\0" "ipIfStatsInDelivers\0"
-    "ipIfStatsHCInDelivers\0" "ipIfStatsOutRequests\0" "ipIfStatsHCOutRequests\0" "ipIfStatsOutForwDatagrams\0"
-    "ipIfStatsHCOutForwDatagrams\0" "ipIfStatsOutDiscards\0" "ipIfStatsOutFragReqds\0" "ipIfStatsOutFragOKs\0"
-    "ipIfStatsOutFragFails\0" "ipIfStatsOutFragCreates\0" "ipIfStatsOutTransmits\0" "ipIfStatsHCOutTransmits\0"
-    "ipIfStatsOutOctets\0", "ipIfStatsHCOutOctets\0" "ipIfStatsInMcastPkts\0" "ipIfStatsHCInMcastPkts\0"
-    "ipIfStatsInMcastOctets\0" "ipIfStatsHCInMcastOctets\0" "ipIfStatsOutMcastPkts\0" "ipIfStatsHCOutMcastPkts\0"
-    "ipIfStatsOutMcastOctets\0" "ipIfStatsHCOutMcastOctets\0" "ipIfStatsInBcastPkts\0" "ipIfStatsHCInBcastPkts\0"
-    "ipIfStatsOutBcastPkts\0" "ipIfStatsHCOutBcastPkts\0" "ipIfStatsDiscontinuityTime\0" "ipIfStatsRefreshRate\0"
-    "ipAddressPrefixTable\0" "ipAddressPrefixEntry\0" "ipAddressPrefixIfIndex\0" "ipAddressPrefixType\0"
-    "ipAddressPrefixPrefix\0" "ipAddressPrefixLength\0" "ipAddressPrefixOrigin\0", "ipAddressPrefixOnLinkFlag\0"
-    "ipAddressPrefixAutonomousFlag\0" "ipAddressPrefixAdvPreferredLifetime\0" "ipAddressPrefixAdvValidLifetime\0"
-    "ipAddressSpinLock\0" "ipAddressTable\0" "ipAddressEntry\0" "ipAddressAddrType\0" "ipAddressAddr\0"
-    "ipAddressIfIndex\0" "ipAddressType\0" "ipAddressPrefix\0" "ipAddressOrigin\0" "ipAddressStatus\0"
-    "ipAddressCreated\0" "ipAddressLastChanged\0" "ipAddressRowStatus\0" "ipAddressStorageType\0"
-    "ipNetToPhysicalTable\0" "ipNetToPhysicalEntry\0" "ipNetToPhysicalIfIndex\0" "ipNetToPhysicalNetAddressType\0"
-    "ipNetToPhysicalNetAddress\0" "ipNetToPhysicalPhysAddress\0", "ipNetToPhysicalLastUpdated\0" "ipNetToPhysicalType\0"
-    "ipNetToPhysicalState\0" "ipNetToPhysicalRowStatus\0" "ipv6ScopeZoneIndexTable\0" "ipv6ScopeZoneIndexEntry\0"
-    "ipv6ScopeZoneIndexIfIndex\0" "ipv6ScopeZoneIndexLinkLocal\0" "ipv6ScopeZoneIndex3\0"
-    "ipv6ScopeZoneIndexAdminLocal\0" "ipv6ScopeZoneIndexSiteLocal\0" "ipv6ScopeZoneIndex6\0" "ipv6ScopeZoneIndex7\0"
-    "ipv6ScopeZoneIndexOrganizationLocal\0" "ipv6ScopeZoneIndex9\0" "ipv6ScopeZoneIndexA\0" "ipv6ScopeZoneIndexB\0"
-    "ipv6ScopeZoneIndexC\0" "ipv6ScopeZoneIndexD\0" "ipDefaultRouterTable\0" "ipDefaultRouterEntry\0",
-    "ipDefaultRouterAddressType\0" "ipDefaultRouterAddress\0" "ipDefaultRouterIfIndex\0" "ipDefaultRouterLifetime\0"
-    "ipDefaultRouterPreference\0" "ipv6RouterAdvertSpinLock\0" "ipv6RouterAdvertTable\0" "ipv6RouterAdvertEntry\0"
-    "ipv6RouterAdvertIfIndex\0" "ipv6RouterAdvertSendAdverts\0" "ipv6RouterAdvertMaxInterval\0"
-    "ipv6RouterAdvertMinInterval\0" "ipv6RouterAdvertManagedFlag\0" "ipv6RouterAdvertOtherConfigFlag\0"
-    "ipv6RouterAdvertLinkMTU\0" "ipv6RouterAdvertReachableTime\0" "ipv6RouterAdvertRetransmitTime\0"
-    "ipv6RouterAdvertCurHopLimit\0" "ipv6RouterAdvertDefaultLifetime\0", "ipv6RouterAdvertRowStatus\0" "icmp\0"
-    "icmpInMsgs\0" "icmpInErrors\0" "icmpInDestUnreachs\0" "icmpInTimeExcds\0" "icmpInParmProbs\0" "icmpInSrcQuenchs\0"
-    "icmpInRedirects\0" "icmpInEchos\0" "icmpInEchoReps\0" "icmpInTimestamps\0" "icmpInTimestampReps\0"
-    "icmpInAddrMasks\0" "icmpInAddrMaskReps\0" "icmpOutMsgs\0" "icmpOutErrors\0" "icmpOutDestUnreachs\0"
-    "icmpOutTimeExcds\0" "icmpOutParmProbs\0" "icmpOutSrcQuenchs\0" "icmpOutRedirects\0" "icmpOutEchos\0"
-    "icmpOutEchoReps\0" "icmpOutTimestamps\0" "icmpOutTimestampReps\0" "icmpOutAddrMasks\0" "icmpOutAddrMaskReps\0"
-    "icmpStatsTable\0" "icmpStatsEntry\0" "icmpStatsIPVersion\0", "icmpStatsInMsgs\0" "icmpStatsInErrors\0"
-    "icmpStatsOutMsgs\0" "icmpStatsOutErrors\0" "icmpMsgStatsTable\0" "icmpMsgStatsEntry\0" "icmpMsgStatsIPVersion\0"
-    "icmpMsgStatsType\0" "icmpMsgStatsInPkts\0" "icmpMsgStatsOutPkts\0" "tcp\0" "tcpRtoAlgorithm\0" "tcpRtoMin\0"
-    "tcpRtoMax\0" "tcpMaxConn\0" "tcpActiveOpens\0" "tcpPassiveOpens\0" "tcpAttemptFails\0" "tcpEstabResets\0"
-    "tcpCurrEstab\0" "tcpInSegs\0" "tcpOutSegs\0" "tcpRetransSegs\0" "tcpConnTable\0" "tcpConnEntry\0" "tcpConnState\0"
-    "tcpConnLocalAddress\0" "tcpConnLocalPort\0" "tcpConnRemAddress\0" "tcpConnRemPort\0" "tcpInErrs\0" "tcpOutRsts\0"
-    "tcpHCInSegs\0" "tcpHCOutSegs\0", "tcpConnectionTable\0" "tcpConnectionEntry\0" "tcpConnectionLocalAddressType\0"
-    "tcpConnectionLocalAddress\0" "tcpConnectionLocalPort\0" "tcpConnectionRemAddressType\0" "tcpConnectionRemAddress\0"
-    "tcpConnectionRemPort\0" "tcpConnectionState\0" "tcpConnectionProcess\0" "tcpListenerTable\0" "tcpListenerEntry\0"
-    "tcpListenerLocalAddressType\0" "tcpListenerLocalAddress\0" "tcpListenerLocalPort\0" "tcpListenerProcess\0" "udp\0"
-    "udpInDatagrams\0" "udpNoPorts\0" "udpInErrors\0" "udpOutDatagrams\0" "udpTable\0" "udpEntry\0" "udpLocalAddress\0"
-    "udpLocalPort\0" "udpEndpointTable\0" "udpEndpointEntry\0", "udpEndpointLocalAddressType\0"
-    "udpEndpointLocalAddress\0" "udpEndpointLocalPort\0" "udpEndpointRemoteAddressType\0" "udpEndpointRemoteAddress\0"
-    "udpEndpointRemotePort\0" "udpEndpointInstance\0" "udpEndpointProcess\0" "udpHCInDatagrams\0" "udpHCOutDatagrams\0"
-    "egp\0" "egpInMsgs\0" "egpInErrors\0" "egpOutMsgs\0" "egpOutErrors\0" "egpNeighTable\0" "egpNeighEntry\0"
-    "egpNeighState\0" "egpNeighAddr\0" "egpNeighAs\0" "egpNeighInMsgs\0" "egpNeighInErrs\0" "egpNeighOutMsgs\0"
-    "egpNeighOutErrs\0" "egpNeighInErrMsgs\0" "egpNeighOutErrMsgs\0" "egpNeighStateUps\0" "egpNeighStateDowns\0"
-    "egpNeighIntervalHello\0", "egpNeighIntervalPoll\0" "egpNeighMode\0" "egpNeighEventTrigger\0" "egpAs\0"
-    "transmission\0" "dot3\0" "dot3StatsTable\0" "dot3StatsEntry\0" "dot3StatsIndex\0" "dot3StatsAlignmentErrors\0"
-    "dot3StatsFCSErrors\0" "dot3StatsSingleCollisionFrames\0" "dot3StatsMultipleCollisionFrames\0"
-    "dot3StatsSQETestErrors\0" "dot3StatsDeferredTransmissions\0" "dot3StatsLateCollisions\0"
-    "dot3StatsExcessiveCollisions\0" "dot3StatsInternalMacTransmitErrors\0" "dot3StatsCarrierSenseErrors\0"
-    "dot3StatsFrameTooLongs\0" "dot3StatsInternalMacReceiveErrors\0" "dot3StatsEtherChipSet\0"
-    "dot3StatsSymbolErrors\0", "dot3StatsDuplexStatus\0" "dot3StatsRateControlAbility\0" "dot3StatsRateControlStatus\0"
-    "dot3CollTable\0" "dot3CollEntry\0" "dot3CollCount\0" "dot3CollFrequencies\0" "dot3Tests\0" "dot3TestTdr\0"
-    "dot3TestLoopBack\0" "dot3Errors\0" "dot3ErrorInitError\0" "dot3ErrorLoopbackError\0" "dot3ControlTable\0"
-    "dot3ControlEntry\0" "dot3ControlFunctionsSupported\0" "dot3ControlInUnknownOpcodes\0"
-    "dot3HCControlInUnknownOpcodes\0" "dot3PauseTable\0" "dot3PauseEntry\0" "dot3PauseAdminMode\0" "dot3PauseOperMode\0"
-    "dot3InPauseFrames\0" "dot3OutPauseFrames\0" "dot3HCInPauseFrames\0" "dot3HCOutPauseFrames\0", "dot3HCStatsTable\0"
-    "dot3HCStatsEntry\0" "dot3HCStatsAlignmentErrors\0" "dot3HCStatsFCSErrors\0"
-    "dot3HCStatsInternalMacTransmitErrors\0" "dot3HCStatsFrameTooLongs\0" "dot3HCStatsInternalMacReceiveErrors\0"
-    "dot3HCStatsSymbolErrors\0" "snmp\0" "snmpInPkts\0" "snmpOutPkts\0" "snmpInBadVersions\0"
-    "snmpInBadCommunityNames\0" "snmpInBadCommunityUses\0" "snmpInASNParseErrs\0" "snmpInTooBigs\0"
-    "snmpInNoSuchNames\0" "snmpInBadValues\0" "snmpInReadOnlys\0" "snmpInGenErrs\0" "snmpInTotalReqVars\0"
-    "snmpInTotalSetVars\0" "snmpInGetRequests\0" "snmpInGetNexts\0" "snmpInSetRequests\0" "snmpInGetResponses\0",
-    "snmpInTraps\0" "snmpOutTooBigs\0" "snmpOutNoSuchNames\0" "snmpOutBadValues\0" "snmpOutGenErrs\0"
-    "snmpOutGetRequests\0" "snmpOutGetNexts\0" "snmpOutSetRequests\0" "snmpOutGetResponses\0" "snmpOutTraps\0"
-    "snmpEnableAuthenTraps\0" "snmpSilentDrops\0" "snmpProxyDrops\0" "bgp\0" "bgpNotification\0"
-    "bgpEstablishedNotification\0" "bgpBackwardTransNotification\0" "bgpVersion\0" "bgpLocalAs\0" "bgpPeerTable\0"
-    "bgpPeerEntry\0" "bgpPeerIdentifier\0" "bgpPeerState\0" "bgpPeerAdminStatus\0" "bgpPeerNegotiatedVersion\0"
-    "bgpPeerLocalAddr\0" "bgpPeerLocalPort\0" "bgpPeerRemoteAddr\0" "bgpPeerRemotePort\0" "bgpPeerRemoteAs\0",
-    "bgpPeerInUpdates\0" "bgpPeerOutUpdates\0" "bgpPeerInTotalMessages\0" "bgpPeerOutTotalMessages\0"
-    "bgpPeerLastError\0" "bgpPeerFsmEstablishedTransitions\0" "bgpPeerFsmEstablishedTime\0"
-    "bgpPeerConnectRetryInterval\0" "bgpPeerHoldTime\0" "bgpPeerKeepAlive\0" "bgpPeerHoldTimeConfigured\0"
-    "bgpPeerKeepAliveConfigured\0" "bgpPeerMinASOriginationInterval\0" "bgpPeerMinRouteAdvertisementInterval\0"
-    "bgpPeerInUpdateElapsedTime\0" "bgpIdentifier\0" "bgpRcvdPathAttrTable\0" "bgpPathAttrEntry\0" "bgpPathAttrPeer\0"
-    "bgpPathAttrDestNetwork\0" "bgpPathAttrOrigin\0" "bgpPathAttrASPath\0", "bgpPathAttrNextHop\0"
-    "bgpPathAttrInterASMetric\0" "bgp4PathAttrTable\0" "bgp4PathAttrEntry\0" "bgp4PathAttrPeer\0"
-    "bgp4PathAttrIpAddrPrefixLen\0" "bgp4PathAttrIpAddrPrefix\0" "bgp4PathAttrOrigin\0" "bgp4PathAttrASPathSegment\0"
-    "bgp4PathAttrNextHop\0" "bgp4PathAttrMultiExitDisc\0" "bgp4PathAttrLocalPref\0" "bgp4PathAttrAtomicAggregate\0"
-    "bgp4PathAttrAggregatorAS\0" "bgp4PathAttrAggregatorAddr\0" "bgp4PathAttrCalcLocalPref\0" "bgp4PathAttrBest\0"
-    "bgp4PathAttrUnknown\0" "bgpTraps\0" "bgpEstablished\0" "bgpBackwardTransition\0" "rmon\0" "rmonEventsV2\0"
-    "risingAlarm\0" "fallingAlarm\0" "statistics\0", "etherStatsTable\0" "etherStatsEntry\0" "etherStatsIndex\0"
-    "etherStatsDataSource\0" "etherStatsDropEvents\0" "etherStatsOctets\0" "etherStatsPkts\0"
-    "etherStatsBroadcastPkts\0" "etherStatsMulticastPkts\0" "etherStatsCRCAlignErrors\0" "etherStatsUndersizePkts\0"
-    "etherStatsOversizePkts\0" "etherStatsFragments\0" "etherStatsJabbers\0" "etherStatsCollisions\0"
-    "etherStatsPkts64Octets\0" "etherStatsPkts65to127Octets\0" "etherStatsPkts128to255Octets\0"
-    "etherStatsPkts256to511Octets\0" "etherStatsPkts512to1023Octets\0" "etherStatsPkts1024to1518Octets\0"
-    "etherStatsOwner\0" "etherStatsStatus\0", "history\0" "historyControlTable\0" "historyControlEntry\0"
-    "historyControlIndex\0" "historyControlDataSource\0" "historyControlBucketsRequested\0"
-    "historyControlBucketsGranted\0" "historyControlInterval\0" "historyControlOwner\0" "historyControlStatus\0"
-    "etherHistoryTable\0" "etherHistoryEntry\0" "etherHistoryIndex\0" "etherHistorySampleIndex\0"
-    "etherHistoryIntervalStart\0" "etherHistoryDropEvents\0" "etherHistoryOctets\0" "etherHistoryPkts\0"
-    "etherHistoryBroadcastPkts\0" "etherHistoryMulticastPkts\0" "etherHistoryCRCAlignErrors\0"
-    "etherHistoryUndersizePkts\0", "etherHistoryOversizePkts\0" "etherHistoryFragments\0" "etherHistoryJabbers\0"
-    "etherHistoryCollisions\0" "etherHistoryUtilization\0" "alarm\0" "alarmTable\0" "alarmEntry\0" "alarmIndex\0"
-    "alarmInterval\0" "alarmVariable\0" "alarmSampleType\0" "alarmValue\0" "alarmStartupAlarm\0"
-    "alarmRisingThreshold\0" "alarmFallingThreshold\0" "alarmRisingEventIndex\0" "alarmFallingEventIndex\0"
-    "alarmOwner\0" "alarmStatus\0" "hosts\0" "hostControlTable\0" "hostControlEntry\0" "hostControlIndex\0"
-    "hostControlDataSource\0" "hostControlTableSize\0" "hostControlLastDeleteTime\0" "hostControlOwner\0"
-    "hostControlStatus\0" "hostTable\0", "hostEntry\0" "hostAddress\0" "hostCreationOrder\0" "hostIndex\0"
-    "hostInPkts\0" "hostOutPkts\0" "hostInOctets\0" "hostOutOctets\0" "hostOutErrors\0" "hostOutBroadcastPkts\0"
-    "hostOutMulticastPkts\0" "hostTimeTable\0" "hostTimeEntry\0" "hostTimeAddress\0" "hostTimeCreationOrder\0"
-    "hostTimeIndex\0" "hostTimeInPkts\0" "hostTimeOutPkts\0" "hostTimeInOctets\0" "hostTimeOutOctets\0"
-    "hostTimeOutErrors\0" "hostTimeOutBroadcastPkts\0" "hostTimeOutMulticastPkts\0" "hostTopN\0"
-    "hostTopNControlTable\0" "hostTopNControlEntry\0" "hostTopNControlIndex\0" "hostTopNHostIndex\0"
-    "hostTopNRateBase\0" "hostTopNTimeRemaining\0", "hostTopNDuration\0" "hostTopNRequestedSize\0"
-    "hostTopNGrantedSize\0" "hostTopNStartTime\0" "hostTopNOwner\0" "hostTopNStatus\0" "hostTopNTable\0"
-    "hostTopNEntry\0" "hostTopNReport\0" "hostTopNIndex\0" "hostTopNAddress\0" "hostTopNRate\0" "matrix\0"
-    "matrixControlTable\0" "matrixControlEntry\0" "matrixControlIndex\0" "matrixControlDataSource\0"
-    "matrixControlTableSize\0" "matrixControlLastDeleteTime\0" "matrixControlOwner\0" "matrixControlStatus\0"
-    "matrixSDTable\0" "matrixSDEntry\0" "matrixSDSourceAddress\0" "matrixSDDestAddress\0" "matrixSDIndex\0"
-    "matrixSDPkts\0" "matrixSDOctets\0" "matrixSDErrors\0", "matrixDSTable\0" "matrixDSEntry\0"
-    "matrixDSSourceAddress\0" "matrixDSDestAddress\0" "matrixDSIndex\0" "matrixDSPkts\0" "matrixDSOctets\0"
-    "matrixDSErrors\0" "filter\0" "filterTable\0" "filterEntry\0" "filterIndex\0" "filterChannelIndex\0"
-    "filterPktDataOffset\0" "filterPktData\0" "filterPktDataMask\0" "filterPktDataNotMask\0" "filterPktStatus\0"
-    "filterPktStatusMask\0" "filterPktStatusNotMask\0" "filterOwner\0" "filterStatus\0" "channelTable\0"
-    "channelEntry\0" "channelIndex\0" "channelIfIndex\0" "channelAcceptType\0" "channelDataControl\0"
-    "channelTurnOnEventIndex\0" "channelTurnOffEventIndex\0" "channelEventIndex\0", "channelEventStatus\0"
-    "channelMatches\0" "channelDescription\0" "channelOwner\0" "channelStatus\0" "capture\0" "bufferControlTable\0"
-    "bufferControlEntry\0" "bufferControlIndex\0" "bufferControlChannelIndex\0" "bufferControlFullStatus\0"
-    "bufferControlFullAction\0" "bufferControlCaptureSliceSize\0" "bufferControlDownloadSliceSize\0"
-    "bufferControlDownloadOffset\0" "bufferControlMaxOctetsRequested\0" "bufferControlMaxOctetsGranted\0"
-    "bufferControlCapturedPackets\0" "bufferControlTurnOnTime\0" "bufferControlOwner\0" "bufferControlStatus\0"
-    "captureBufferTable\0" "captureBufferEntry\0", "captureBufferControlIndex\0" "captureBufferIndex\0"
-    "captureBufferPacketID\0" "captureBufferPacketData\0" "captureBufferPacketLength\0" "captureBufferPacketTime\0"
-    "captureBufferPacketStatus\0" "event\0" "eventTable\0" "eventEntry\0" "eventIndex\0" "eventDescription\0"
-    "eventType\0" "eventCommunity\0" "eventLastTimeSent\0" "eventOwner\0" "eventStatus\0" "logTable\0" "logEntry\0"
-    "logEventIndex\0" "logIndex\0" "logTime\0" "logDescription\0" "rmonMibModule\0" "dot1dBridge\0"
-    "dot1dNotifications\0" "newRoot\0" "topologyChange\0" "dot1dBase\0" "dot1dBaseBridgeAddress\0" "dot1dBaseNumPorts\0"
-    "dot1dBaseType\0" "dot1dBasePortTable\0", "dot1dBasePortEntry\0" "dot1dBasePort\0" "dot1dBasePortIfIndex\0"
-    "dot1dBasePortCircuit\0" "dot1dBasePortDelayExceededDiscards\0" "dot1dBasePortMtuExceededDiscards\0" "dot1dStp\0"
-    "dot1dStpProtocolSpecification\0" "dot1dStpPriority\0" "dot1dStpTimeSinceTopologyChange\0" "dot1dStpTopChanges\0"
-    "dot1dStpDesignatedRoot\0" "dot1dStpRootCost\0" "dot1dStpRootPort\0" "dot1dStpMaxAge\0" "dot1dStpHelloTime\0"
-    "dot1dStpHoldTime\0" "dot1dStpForwardDelay\0" "dot1dStpBridgeMaxAge\0" "dot1dStpBridgeHelloTime\0"
-    "dot1dStpBridgeForwardDelay\0" "dot1dStpPortTable\0" "dot1dStpPortEntry\0" "dot1dStpPort\0",
-    "dot1dStpPortPriority\0" "dot1dStpPortState\0" "dot1dStpPortEnable\0" "dot1dStpPortPathCost\0"
-    "dot1dStpPortDesignatedRoot\0" "dot1dStpPortDesignatedCost\0" "dot1dStpPortDesignatedBridge\0"
-    "dot1dStpPortDesignatedPort\0" "dot1dStpPortForwardTransitions\0" "dot1dStpPortPathCost32\0" "dot1dSr\0" "dot1dTp\0"
-    "dot1dTpLearnedEntryDiscards\0" "dot1dTpAgingTime\0" "dot1dTpFdbTable\0" "dot1dTpFdbEntry\0" "dot1dTpFdbAddress\0"
-    "dot1dTpFdbPort\0" "dot1dTpFdbStatus\0" "dot1dTpPortTable\0" "dot1dTpPortEntry\0" "dot1dTpPort\0"
-    "dot1dTpPortMaxInfo\0" "dot1dTpPortInFrames\0" "dot1dTpPortOutFrames\0", "dot1dTpPortInDiscards\0" "dot1dStatic\0"
-    "dot1dStaticTable\0" "dot1dStaticEntry\0" "dot1dStaticAddress\0" "dot1dStaticReceivePort\0"
-    "dot1dStaticAllowedToGoTo\0" "dot1dStaticStatus\0" "qBridgeMIB\0" "qBridgeMIBObjects\0" "dot1qBase\0"
-    "dot1qVlanVersionNumber\0" "dot1qMaxVlanId\0" "dot1qMaxSupportedVlans\0" "dot1qNumVlans\0" "dot1qGvrpStatus\0"
-    "dot1qTp\0" "dot1qFdbTable\0" "dot1qFdbEntry\0" "dot1qFdbId\0" "dot1qFdbDynamicCount\0" "dot1qTpFdbTable\0"
-    "dot1qTpFdbEntry\0" "dot1qTpFdbAddress\0" "dot1qTpFdbPort\0" "dot1qTpFdbStatus\0" "dot1qTpGroupTable\0"
-    "dot1qTpGroupEntry\0" "dot1qTpGroupAddress\0", "dot1qTpGroupEgressPorts\0" "dot1qTpGroupLearnt\0"
-    "dot1qForwardAllTable\0" "dot1qForwardAllEntry\0" "dot1qForwardAllPorts\0" "dot1qForwardAllStaticPorts\0"
-    "dot1qForwardAllForbiddenPorts\0" "dot1qForwardUnregisteredTable\0" "dot1qForwardUnregisteredEntry\0"
-    "dot1qForwardUnregisteredPorts\0" "dot1qForwardUnregisteredStaticPorts\0" "dot1qForwardUnregisteredForbiddenPorts\0"
-    "dot1qStatic\0" "dot1qStaticUnicastTable\0" "dot1qStaticUnicastEntry\0" "dot1qStaticUnicastAddress\0"
-    "dot1qStaticUnicastReceivePort\0" "dot1qStaticUnicastAllowedToGoTo\0" "dot1qStaticUnicastStatus\0",
-    "dot1qStaticMulticastTable\0" "dot1qStaticMulticastEntry\0" "dot1qStaticMulticastAddress\0"
-    "dot1qStaticMulticastReceivePort\0" "dot1qStaticMulticastStaticEgressPorts\0"
-    "dot1qStaticMulticastForbiddenEgressPorts\0" "dot1qStaticMulticastStatus\0" "dot1qVlan\0" "dot1qVlanNumDeletes\0"
-    "dot1qVlanCurrentTable\0" "dot1qVlanCurrentEntry\0" "dot1qVlanTimeMark\0" "dot1qVlanIndex\0" "dot1qVlanFdbId\0"
-    "dot1qVlanCurrentEgressPorts\0" "dot1qVlanCurrentUntaggedPorts\0" "dot1qVlanStatus\0" "dot1qVlanCreationTime\0"
-    "dot1qVlanStaticTable\0" "dot1qVlanStaticEntry\0" "dot1qVlanStaticName\0", "dot1qVlanStaticEgressPorts\0"
-    "dot1qVlanForbiddenEgressPorts\0" "dot1qVlanStaticUntaggedPorts\0" "dot1qVlanStaticRowStatus\0"
-    "dot1qNextFreeLocalVlanIndex\0" "dot1qPortVlanTable\0" "dot1qPortVlanEntry\0" "dot1qPvid\0"
-    "dot1qPortAcceptableFrameTypes\0" "dot1qPortIngressFiltering\0" "dot1qPortGvrpStatus\0"
-    "dot1qPortGvrpFailedRegistrations\0" "dot1qPortGvrpLastPduOrigin\0" "dot1qPortRestrictedVlanRegistration\0"
-    "dot1qPortVlanStatisticsTable\0" "dot1qPortVlanStatisticsEntry\0" "dot1qTpVlanPortInFrames\0"
-    "dot1qTpVlanPortOutFrames\0" "dot1qTpVlanPortInDiscards\0", "dot1qTpVlanPortInOverflowFrames\0"
-    "dot1qTpVlanPortOutOverflowFrames\0" "dot1qTpVlanPortInOverflowDiscards\0" "dot1qPortVlanHCStatisticsTable\0"
-    "dot1qPortVlanHCStatisticsEntry\0" "dot1qTpVlanPortHCInFrames\0" "dot1qTpVlanPortHCOutFrames\0"
-    "dot1qTpVlanPortHCInDiscards\0" "dot1qLearningConstraintsTable\0" "dot1qLearningConstraintsEntry\0"
-    "dot1qConstraintVlan\0" "dot1qConstraintSet\0" "dot1qConstraintType\0" "dot1qConstraintStatus\0"
-    "dot1qConstraintSetDefault\0" "dot1qConstraintTypeDefault\0" "dot1vProtocol\0" "dot1vProtocolGroupTable\0"
-    "dot1vProtocolGroupEntry\0", "dot1vProtocolTemplateFrameType\0" "dot1vProtocolTemplateProtocolValue\0"
-    "dot1vProtocolGroupId\0" "dot1vProtocolGroupRowStatus\0" "dot1vProtocolPortTable\0" "dot1vProtocolPortEntry\0"
-    "dot1vProtocolPortGroupId\0" "dot1vProtocolPortGroupVid\0" "dot1vProtocolPortRowStatus\0" "host\0" "hrSystem\0"
-    "hrSystemUptime\0" "hrSystemDate\0" "hrSystemInitialLoadDevice\0" "hrSystemInitialLoadParameters\0"
-    "hrSystemNumUsers\0" "hrSystemProcesses\0" "hrSystemMaxProcesses\0" "hrStorage\0" "hrStorageTypes\0"
-    "hrMemorySize\0" "hrStorageTable\0" "hrStorageEntry\0" "hrStorageIndex\0" "hrStorageType\0" "hrStorageDescr\0",
-    "hrStorageAllocationUnits\0" "hrStorageSize\0" "hrStorageUsed\0" "hrStorageAllocationFailures\0" "hrDevice\0"
-    "hrDeviceTypes\0" "hrDeviceTable\0" "hrDeviceEntry\0" "hrDeviceIndex\0" "hrDeviceType\0" "hrDeviceDescr\0"
-    "hrDeviceID\0" "hrDeviceStatus\0" "hrDeviceErrors\0" "hrProcessorTable\0" "hrProcessorEntry\0" "hrProcessorFrwID\0"
-    "hrProcessorLoad\0" "hrNetworkTable\0" "hrNetworkEntry\0" "hrNetworkIfIndex\0" "hrPrinterTable\0" "hrPrinterEntry\0"
-    "hrPrinterStatus\0" "hrPrinterDetectedErrorState\0" "hrDiskStorageTable\0" "hrDiskStorageEntry\0"
-    "hrDiskStorageAccess\0" "hrDiskStorageMedia\0" "hrDiskStorageRemoveble\0", "hrDiskStorageCapacity\0"
-    "hrPartitionTable\0" "hrPartitionEntry\0" "hrPartitionIndex\0" "hrPartitionLabel\0" "hrPartitionID\0"
-    "hrPartitionSize\0" "hrPartitionFSIndex\0" "hrFSTable\0" "hrFSEntry\0" "hrFSIndex\0" "hrFSMountPoint\0"
-    "hrFSRemoteMountPoint\0" "hrFSType\0" "hrFSAccess\0" "hrFSBootable\0" "hrFSStorageIndex\0"
-    "hrFSLastFullBackupDate\0" "hrFSLastPartialBackupDate\0" "hrFSTypes\0" "hrSWRun\0" "hrSWOSIndex\0" "hrSWRunTable\0"
-    "hrSWRunEntry\0" "hrSWRunIndex\0" "hrSWRunName\0" "hrSWRunID\0" "hrSWRunPath\0" "hrSWRunParameters\0"
-    "hrSWRunType\0" "hrSWRunStatus\0" "hrSWRunPerf\0" "hrSWRunPerfTable\0" "hrSWRunPerfEntry\0", "hrSWRunPerfCPU\0"
-    "hrSWRunPerfMem\0" "hrSWInstalled\0" "hrSWInstalledLastChange\0" "hrSWInstalledLastUpdateTime\0"
-    "hrSWInstalledTable\0" "hrSWInstalledEntry\0" "hrSWInstalledIndex\0" "hrSWInstalledName\0" "hrSWInstalledID\0"
-    "hrSWInstalledType\0" "hrSWInstalledDate\0" "hrMIBAdminInfo\0" "hostResourcesMibModule\0" "hrMIBCompliances\0"
-    "hrMIBCompliance\0" "hrMIBGroups\0" "hrSystemGroup\0" "hrStorageGroup\0" "hrDeviceGroup\0" "hrSWRunGroup\0"
-    "hrSWRunPerfGroup\0" "hrSWInstalledGroup\0" "ifMIB\0" "ifMIBObjects\0" "ifXTable\0" "ifXEntry\0" "ifName\0"
-    "ifInMulticastPkts\0" "ifInBroadcastPkts\0" "ifOutMulticastPkts\0", "ifOutBroadcastPkts\0" "ifHCInOctets\0"
-    "ifHCInUcastPkts\0" "ifHCInMulticastPkts\0" "ifHCInBroadcastPkts\0" "ifHCOutOctets\0" "ifHCOutUcastPkts\0"
-    "ifHCOutMulticastPkts\0" "ifHCOutBroadcastPkts\0" "ifLinkUpDownTrapEnable\0" "ifHighSpeed\0" "ifPromiscuousMode\0"
-    "ifConnectorPresent\0" "ifAlias\0" "ifCounterDiscontinuityTime\0" "ifStackTable\0" "ifStackEntry\0"
-    "ifStackHigherLayer\0" "ifStackLowerLayer\0" "ifStackStatus\0" "ifTestTable\0" "ifTestEntry\0" "ifTestId\0"
-    "ifTestStatus\0" "ifTestType\0" "ifTestResult\0" "ifTestCode\0" "ifTestOwner\0" "ifRcvAddressTable\0"
-    "ifRcvAddressEntry\0" "ifRcvAddressAddress\0", "ifRcvAddressStatus\0" "ifRcvAddressType\0" "ifTableLastChange\0"
-    "ifStackLastChange\0" "ifConformance\0" "ifGroups\0" "ifGeneralGroup\0" "ifFixedLengthGroup\0"
-    "ifHCFixedLengthGroup\0" "ifPacketGroup\0" "ifHCPacketGroup\0" "ifVHCPacketGroup\0" "ifRcvAddressGroup\0"
-    "ifTestGroup\0" "ifStackGroup\0" "ifGeneralInformationGroup\0" "ifStackGroup2\0" "ifOldObjectsGroup\0"
-    "ifCounterDiscontinuityGroup\0" "linkUpDownNotificationsGroup\0" "ifCompliances\0" "ifCompliance\0"
-    "ifCompliance2\0" "ifCompliance3\0" "upsMIB\0" "upsObjects\0" "upsIdent\0" "upsIdentManufacturer\0"
-    "upsIdentModel\0" "upsIdentUPSSoftwareVersion\0", "upsIdentAgentSoftwareVersion\0" "upsIdentName\0"
-    "upsIdentAttachedDevices\0" "upsBattery\0" "upsBatteryStatus\0" "upsSecondsOnBattery\0"
-    "upsEstimatedMinutesRemaining\0" "upsEstimatedChargeRemaining\0" "upsBatteryVoltage\0" "upsBatteryCurrent\0"
-    "upsBatteryTemperature\0" "upsInput\0" "upsInputLineBads\0" "upsInputNumLines\0" "upsInputTable\0" "upsInputEntry\0"
-    "upsInputLineIndex\0" "upsInputFrequency\0" "upsInputVoltage\0" "upsInputCurrent\0" "upsInputTruePower\0"
-    "upsOutput\0" "upsOutputSource\0" "upsOutputFrequency\0" "upsOutputNumLines\0" "upsOutputTable\0" "upsOutputEntry\0"
-    "upsOutputLineIndex\0", "upsOutputVoltage\0" "upsOutputCurrent\0" "upsOutputPower\0" "upsOutputPercentLoad\0"
-    "upsBypass\0" "upsBypassFrequency\0" "upsBypassNumLines\0" "upsBypassTable\0" "upsBypassEntry\0"
-    "upsBypassLineIndex\0" "upsBypassVoltage\0" "upsBypassCurrent\0" "upsBypassPower\0" "upsAlarm\0"
-    "upsAlarmsPresent\0" "upsAlarmTable\0" "upsAlarmEntry\0" "upsAlarmId\0" "upsAlarmDescr\0" "upsAlarmTime\0"
-    "upsWellKnownAlarms\0" "upsAlarmBatteryBad\0" "upsAlarmOnBattery\0" "upsAlarmLowBattery\0"
-    "upsAlarmDepletedBattery\0" "upsAlarmTempBad\0" "upsAlarmInputBad\0" "upsAlarmOutputBad\0"
-    "upsAlarmOutputOverload\0" "upsAlarmOnBypass\0", "upsAlarmBypassBad\0" "upsAlarmOutputOffAsRequested\0"
-    "upsAlarmUpsOffAsRequested\0" "upsAlarmChargerFailed\0" "upsAlarmUpsOutputOff\0" "upsAlarmUpsSystemOff\0"
-    "upsAlarmFanFailure\0" "upsAlarmFuseFailure\0" "upsAlarmGeneralFault\0" "upsAlarmDiagnosticTestFailed\0"
-    "upsAlarmCommunicationsLost\0" "upsAlarmAwaitingPower\0" "upsAlarmShutdownPending\0" "upsAlarmShutdownImminent\0"
-    "upsAlarmTestInProgress\0" "upsTest\0" "upsTestId\0" "upsTestSpinLock\0" "upsTestResultsSummary\0"
-    "upsTestResultsDetail\0" "upsTestStartTime\0" "upsTestElapsedTime\0" "upsWellKnownTests\0"
-    "upsTestNoTestsInitiated\0", "upsTestAbortTestInProgress\0" "upsTestGeneralSystemsTest\0"
-    "upsTestQuickBatteryTest\0" "upsTestDeepBatteryCalibration\0" "upsControl\0" "upsShutdownType\0"
-    "upsShutdownAfterDelay\0" "upsStartupAfterDelay\0" "upsRebootWithDuration\0" "upsAutoRestart\0" "upsConfig\0"
-    "upsConfigInputVoltage\0" "upsConfigInputFreq\0" "upsConfigOutputVoltage\0" "upsConfigOutputFreq\0"
-    "upsConfigOutputVA\0" "upsConfigOutputPower\0" "upsConfigLowBattTime\0" "upsConfigAudibleStatus\0"
-    "upsConfigLowVoltageTransferPoint\0" "upsConfigHighVoltageTransferPoint\0" "upsTraps\0" "upsTrapOnBattery\0"
-    "upsTrapTestCompleted\0", "upsTrapAlarmEntryAdded\0" "upsTrapAlarmEntryRemoved\0" "etherMIB\0" "etherMIBObjects\0"
-    "printmib\0" "prtGeneral\0" "prtGeneralTable\0" "prtGeneralEntry\0" "prtGeneralConfigChanges\0"
-    "prtGeneralCurrentLocalization\0" "prtGeneralReset\0" "prtGeneralCurrentOperator\0" "prtGeneralServicePerson\0"
-    "prtInputDefaultIndex\0" "prtOutputDefaultIndex\0" "prtMarkerDefaultIndex\0" "prtMediaPathDefaultIndex\0"
-    "prtConsoleLocalization\0" "prtConsoleNumberOfDisplayLines\0" "prtConsoleNumberOfDisplayChars\0"
-    "prtConsoleDisable\0" "prtAuxiliarySheetStartupPage\0" "prtAuxiliarySheetBannerPage\0", "prtGeneralPrinterName\0"
-    "prtGeneralSerialNumber\0" "prtAlertCriticalEvents\0" "prtAlertAllEvents\0" "prtStorageRefTable\0"
-    "prtStorageRefEntry\0" "prtStorageRefSeqNumber\0" "prtStorageRefIndex\0" "prtDeviceRefTable\0" "prtDeviceRefEntry\0"
-    "prtDeviceRefSeqNumber\0" "prtDeviceRefIndex\0" "prtCover\0" "prtCoverTable\0" "prtCoverEntry\0" "prtCoverIndex\0"
-    "prtCoverDescription\0" "prtCoverStatus\0" "prtLocalization\0" "prtLocalizationTable\0" "prtLocalizationEntry\0"
-    "prtLocalizationIndex\0" "prtLocalizationLanguage\0" "prtLocalizationCountry\0" "prtLocalizationCharacterSet\0"
-    "prtInput\0" "prtInputTable\0", "prtInputEntry\0" "prtInputIndex\0" "prtInputType\0" "prtInputDimUnit\0"
-    "prtInputMediaDimFeedDirDeclared\0" "prtInputMediaDimXFeedDirDeclared\0" "prtInputMediaDimFeedDirChosen\0"
-    "prtInputMediaDimXFeedDirChosen\0" "prtInputCapacityUnit\0" "prtInputMaxCapacity\0" "prtInputCurrentLevel\0"
-    "prtInputStatus\0" "prtInputMediaName\0" "prtInputName\0" "prtInputVendorName\0" "prtInputModel\0"
-    "prtInputVersion\0" "prtInputSerialNumber\0" "prtInputDescription\0" "prtInputSecurity\0" "prtInputMediaWeight\0"
-    "prtInputMediaType\0" "prtInputMediaColor\0" "prtInputMediaFormParts\0" "prtInputMediaLoadTimeout\0",
-    "prtInputNextIndex\0" "prtOutput\0" "prtOutputTable\0" "prtOutputEntry\0" "prtOutputIndex\0" "prtOutputType\0"
-    "prtOutputCapacityUnit\0" "prtOutputMaxCapacity\0" "prtOutputRemainingCapacity\0" "prtOutputStatus\0"
-    "prtOutputName\0" "prtOutputVendorName\0" "prtOutputModel\0" "prtOutputVersion\0" "prtOutputSerialNumber\0"
-    "prtOutputDescription\0" "prtOutputSecurity\0" "prtOutputDimUnit\0" "prtOutputMaxDimFeedDir\0"
-    "prtOutputMaxDimXFeedDir\0" "prtOutputMinDimFeedDir\0" "prtOutputMinDimXFeedDir\0" "prtOutputStackingOrder\0"
-    "prtOutputPageDeliveryOrientation\0" "prtOutputBursting\0" "prtOutputDecollating\0", "prtOutputPageCollated\0"
-    "prtOutputOffsetStacking\0" "prtMarker\0" "prtMarkerTable\0" "prtMarkerEntry\0" "prtMarkerIndex\0"
-    "prtMarkerMarkTech\0" "prtMarkerCounterUnit\0" "prtMarkerLifeCount\0" "prtMarkerPowerOnCount\0"
-    "prtMarkerProcessColorants\0" "prtMarkerSpotColorants\0" "prtMarkerAddressabilityUnit\0"
-    "prtMarkerAddressabilityFeedDir\0" "prtMarkerAddressabilityXFeedDir\0" "prtMarkerNorthMargin\0"
-    "prtMarkerSouthMargin\0" "prtMarkerWestMargin\0" "prtMarkerEastMargin\0" "prtMarkerStatus\0" "prtMarkerSupplies\0"
-    "prtMarkerSuppliesTable\0" "prtMarkerSuppliesEntry\0" "prtMarkerSuppliesIndex\0", "prtMarkerSuppliesMarkerIndex\0"
-    "prtMarkerSuppliesColorantIndex\0" "prtMarkerSuppliesClass\0" "prtMarkerSuppliesType\0"
-    "prtMarkerSuppliesDescription\0" "prtMarkerSuppliesSupplyUnit\0" "prtMarkerSuppliesMaxCapacity\0"
-    "prtMarkerSuppliesLevel\0" "prtMarkerColorant\0" "prtMarkerColorantTable\0" "prtMarkerColorantEntry\0"
-    "prtMarkerColorantIndex\0" "prtMarkerColorantMarkerIndex\0" "prtMarkerColorantRole\0" "prtMarkerColorantValue\0"
-    "prtMarkerColorantTonality\0" "prtMediaPath\0" "prtMediaPathTable\0" "prtMediaPathEntry\0" "prtMediaPathIndex\0"
-    "prtMediaPathMaxSpeedPrintUnit\0", "prtMediaPathMediaSizeUnit\0" "prtMediaPathMaxSpeed\0"
-    "prtMediaPathMaxMediaFeedDir\0" "prtMediaPathMaxMediaXFeedDir\0" "prtMediaPathMinMediaFeedDir\0"
-    "prtMediaPathMinMediaXFeedDir\0" "prtMediaPathType\0" "prtMediaPathDescription\0" "prtMediaPathStatus\0"
-    "prtChannel\0" "prtChannelTable\0" "prtChannelEntry\0" "prtChannelIndex\0" "prtChannelType\0"
-    "prtChannelProtocolVersion\0" "prtChannelCurrentJobCntlLangIndex\0" "prtChannelDefaultPageDescLangIndex\0"
-    "prtChannelState\0" "prtChannelIfIndex\0" "prtChannelStatus\0" "prtChannelInformation\0" "prtInterpreter\0"
-    "prtInterpreterTable\0", "prtInterpreterEntry\0" "prtInterpreterIndex\0" "prtInterpreterLangFamily\0"
-    "prtInterpreterLangLevel\0" "prtInterpreterLangVersion\0" "prtInterpreterDescription\0" "prtInterpreterVersion\0"
-    "prtInterpreterDefaultOrientation\0" "prtInterpreterFeedAddressability\0" "prtInterpreterXFeedAddressability\0"
-    "prtInterpreterDefaultCharSetIn\0" "prtInterpreterDefaultCharSetOut\0" "prtInterpreterTwoWay\0"
-    "prtConsoleDisplayBuffer\0" "prtConsoleDisplayBufferTable\0" "prtConsoleDisplayBufferEntry\0"
-    "prtConsoleDisplayBufferIndex\0" "prtConsoleDisplayBufferText\0" "prtConsoleLights\0", "prtConsoleLightTable\0"
-    "prtConsoleLightEntry\0" "prtConsoleLightIndex\0" "prtConsoleOnTime\0" "prtConsoleOffTime\0" "prtConsoleColor\0"
-    "prtConsoleDescription\0" "prtAlert\0" "prtAlertTable\0" "prtAlertEntry\0" "prtAlertIndex\0"
-    "prtAlertSeverityLevel\0" "prtAlertTrainingLevel\0" "prtAlertGroupIndex\0" "prtAlertLocation\0" "prtAlertCode\0"
-    "prtAlertDescription\0" "prtAlertTime\0" "printerV1Alert\0" "printerV2AlertPrefix\0" "printerV2Alert\0"
-    "entityMIB\0" "entityMIBObjects\0" "entityPhysical\0" "entPhysicalTable\0" "entPhysicalEntry\0" "entPhysicalIndex\0"
-    "entPhysicalDescr\0" "entPhysicalVendorType\0", "entPhysicalContainedIn\0" "entPhysicalClass\0"
-    "entPhysicalParentRelPos\0" "entPhysicalName\0" "entPhysicalHardwareRev\0" "entPhysicalFirmwareRev\0"
-    "entPhysicalSoftwareRev\0" "entPhysicalSerialNum\0" "entPhysicalMfgName\0" "entPhysicalModelName\0"
-    "entPhysicalAlias\0" "entPhysicalAssetID\0" "entPhysicalIsFRU\0" "entPhysicalMfgDate\0" "entPhysicalUris\0"
-    "entityLogical\0" "entLogicalTable\0" "entLogicalEntry\0" "entLogicalIndex\0" "entLogicalDescr\0" "entLogicalType\0"
-    "entLogicalCommunity\0" "entLogicalTAddress\0" "entLogicalTDomain\0" "entLogicalContextEngineID\0"
-    "entLogicalContextName\0", "entityMapping\0" "entLPMappingTable\0" "entLPMappingEntry\0" "entLPPhysicalIndex\0"
-    "entAliasMappingTable\0" "entAliasMappingEntry\0" "entAliasLogicalIndexOrZero\0" "entAliasMappingIdentifier\0"
-    "entPhysicalContainsTable\0" "entPhysicalContainsEntry\0" "entPhysicalChildIndex\0" "entityGeneral\0"
-    "entLastChangeTime\0" "entityMIBTraps\0" "entityMIBTrapPrefix\0" "entConfigChange\0" "ipMIB\0" "ipMIBConformance\0"
-    "ipMIBCompliances\0" "ipMIBCompliance\0" "ipMIBCompliance2\0" "ipMIBGroups\0" "ipGroup\0" "icmpGroup\0"
-    "ipv4GeneralGroup\0" "ipv4IfGroup\0" "ipv6GeneralGroup2\0" "ipv6IfGroup\0" "ipLastChangeGroup\0",
-    "ipSystemStatsGroup\0" "ipv4SystemStatsGroup\0" "ipSystemStatsHCOctetGroup\0" "ipSystemStatsHCPacketGroup\0"
-    "ipv4SystemStatsHCPacketGroup\0" "ipIfStatsGroup\0" "ipv4IfStatsGroup\0" "ipIfStatsHCOctetGroup\0"
-    "ipIfStatsHCPacketGroup\0" "ipv4IfStatsHCPacketGroup\0" "ipAddressPrefixGroup\0" "ipAddressGroup\0"
-    "ipNetToPhysicalGroup\0" "ipv6ScopeGroup\0" "ipDefaultRouterGroup\0" "ipv6RouterAdvertGroup\0" "icmpStatsGroup\0"
-    "tcpMIB\0" "tcpMIBConformance\0" "tcpMIBCompliances\0" "tcpMIBCompliance\0" "tcpMIBCompliance2\0" "tcpMIBGroups\0"
-    "tcpGroup\0" "tcpBaseGroup\0" "tcpConnectionGroup\0" "tcpListenerGroup\0", "tcpHCGroup\0" "udpMIB\0"
-    "udpMIBConformance\0" "udpMIBCompliances\0" "udpMIBCompliance\0" "udpMIBCompliance2\0" "udpMIBGroups\0" "udpGroup\0"
-    "udpBaseGroup\0" "udpHCGroup\0" "udpEndpointGroup\0" "ifInvertedStackMIB\0" "ifInvMIBObjects\0" "ifInvStackTable\0"
-    "ifInvStackEntry\0" "ifInvStackStatus\0" "entitySensorMIB\0" "entitySensorObjects\0" "entPhySensorTable\0"
-    "entPhySensorEntry\0" "entPhySensorType\0" "entPhySensorScale\0" "entPhySensorPrecision\0" "entPhySensorValue\0"
-    "entPhySensorOperStatus\0" "entPhySensorUnitsDisplay\0" "entPhySensorValueTimeStamp\0"
-    "entPhySensorValueUpdateRate\0" "experimental\0", "Experimental\0" "private\0" "Private\0" "enterprises\0"
-    "Enterprises\0" "nisMailAlias\0" "rfc822MailMember\0" "javaClassName\0" "javaCodebase\0" "javaSerializedData\0"
-    "javaFactory\0" "javaReferenceAddress\0" "javaDoc\0" "javaClassNames\0" "corbaIor\0" "corbaRepositoryId\0"
-    "javaContainer\0" "javaObject\0" "javaSerializedObject\0" "javaNamingReference\0" "javaMarshalledObject\0"
-    "corbaObject\0" "corbaContainer\0" "corbaObjectReference\0" "pwdAttribute\0" "pwdMinAge\0" "pwdMaxAge\0"
-    "pwdInHistory\0" "pwdCheckQuality\0" "pwdMinLength\0" "pwdExpireWarning\0" "pwdGraceAuthNLimit\0" "pwdLockout\0"
-    "pwdLockoutDuration\0" "pwdMaxFailure\0", "pwdFailureCountInterval\0" "pwdMustChange\0" "pwdAllowUserChange\0"
-    "pwdSafeModify\0" "pwdChangedTime\0" "pwdAccountLockedTime\0" "pwdFailureTime\0" "pwdHistory\0" "pwdGraceUseTime\0"
-    "pwdReset\0" "pwdPolicySubentry\0" "pwdMinDelay\0" "pwdMaxDelay\0" "pwdMaxIdle\0" "pwdStartTime\0" "pwdEndTime\0"
-    "pwdLastSuccess\0" "pwdGraceExpiry\0" "pwdMaxLength\0" "pwdMaxRecordedFailure\0" "pwdAccountTmpLockoutEnd\0"
-    "pwdPolicy\0" "LDAP_CONTROL_PASSWORDPOLICYREQUEST\0" "LDAP_CONTROL_PASSWORDPOLICYRESPONSE\0" "targetUniqueId\0"
-    "LDAP_CONTROL_X_ACCOUNT_USABILITY\0" "IDEA-CBC\0" "idea-cbc\0" "id-IDEA-CBC\0" "id-alg-CMSIDEAwrap\0", "microsoft\0"
-    "SPC_INDIRECT_DATA_OBJID\0" "SPC_STATEMENT_TYPE_OBJID\0" "SPC_SP_OPUS_INFO_OBJID\0" "msExtReq\0"
-    "Microsoft Extension Request\0" "szOID_CERT_EXTENSIONS\0" "SPC_PE_IMAGE_DATA_OBJID\0"
-    "SPC_INDIVIDUAL_SP_KEY_PURPOSE_OBJID\0" "msCodeInd\0" "Microsoft Individual Code Signing\0"
-    "SPC_COMMERCIAL_SP_KEY_PURPOSE_OBJID\0" "msCodeCom\0" "Microsoft Commercial Code Signing\0"
-    "MicrosoftCommercialCodeSigning\0" "ExtKeyUsageMicrosoftCommercialCodeSigning\0" "NTLMSSP\0" "NEGOEX\0"
-    "microsoft_nested_signature\0" "szOID_RFC3161_counterSign\0" "microsoft_time_stamp_token\0" "szOID_CTL\0",
-    "Certificate Trust List\0" "szOID_NEXT_UPDATE_LOCATION\0" "szOID_KP_CTL_USAGE_SIGNING\0" "msCTLSign\0"
-    "Microsoft Trust List Signing\0" "Certificate Trust List (CTL) Signing\0" "microsoft_trust_list_signing\0"
-    "szOID_KP_TIME_STAMP_SIGNING\0" "Microsoft Time Stamping\0" "Timestamp Signing\0" "microsoft_time_stamp_signing\0"
-    "szOID_SERVER_GATED_CRYPTO\0" "msSGC\0" "Microsoft Server Gated Crypto\0" "MicrosoftServerGatedCrypto\0"
-    "ExtKeyUsageMicrosoftServerGatedCrypto\0" "microsoft_server_gated\0" "microsoft_serialized\0" "szOID_KP_EFS\0"
-    "msEFS\0" "Microsoft Encrypted File System\0", "Encrypting File System\0" "EFS Encryption\0" "microsoft_efs\0"
-    "szOID_EFS_RECOVERY\0" "File Recovery\0" "EFS Recovery\0" "microsoft_efs_recovery\0" "szOID_WHQL_CRYPTO\0"
-    "Windows Hardware Driver Verification\0" "microsoft_whql\0" "szOID_NT5_CRYPTO\0"
-    "Windows System Component Verification\0" "microsoft_nt5\0" "szOID_OEM_WHQL_CRYPTO\0"
-    "OEM Windows System Component Verification\0" "microsoft_oem_whql\0" "szOID_EMBEDDED_NT_CRYPTO\0"
-    "Embedded Windows System Component Verification\0" "microsoft_embedded_nt\0" "szOID_ROOT_LIST_SIGNER\0"
-    "Root List Signer\0" "microsoft_root_list_signer\0", "szOID_KP_QUALIFIED_SUBORDINATION\0"
-    "Qualified Subordination\0" "microsoft_qualified_subordination\0" "szOID_KP_KEY_RECOVERY\0" "Key Recovery\0"
-    "microsoft_key_recovery\0" "szOID_KP_DOCUMENT_SIGNING\0" "Document Signing\0" "microsoft_document_signing\0"
-    "szOID_KP_LIFETIME_SIGNING\0" "Lifetime Signing\0" "microsoft_lifetime_signing\0"
-    "microsoft_mobile_device_software\0" "szOID_REVOKED_LIST_SIGNER\0" "Revoked List Signer\0" "szOID_DISALLOWED_LIST\0"
-    "Disallowed List\0" "szOID_DRM\0" "Digital Rights\0" "Digital Rights Management\0" "szOID_LICENSES\0"
-    "Key Pack Licenses\0", "szOID_LICENSE_SERVER\0" "License Server Verification\0" "License Server\0"
-    "szOID_CROSS_CERT_DIST_POINTS\0" "szOID_ANY_APPLICATION_POLICY\0" "All application policies\0"
-    "szOID_RENEWAL_CERTIFICATE\0" "szOID_ENROLLMENT_NAME_VALUE_PAIR\0" "szOID_ENROLLMENT_CSP_PROVIDER\0"
-    "microsoft_enrollment_csp_provider\0" "szOID_OS_VERSION\0" "microsoft_os_version\0" "CSPName\0"
-    "Microsoft CSP Name\0" "szOID_PKCS_12_KEY_PROVIDER_NAME_ATTR\0" "LocalKeySet\0" "Microsoft Local Key set\0"
-    "szOID_PKCS_12_EXTENDED_ATTRIBUTES\0" "szOID_AUTO_ENROLL_CTL_USAGE\0" "szOID_ENROLL_CERTTYPE_EXTENSION\0",
-    "Certificate Template Name\0" "microsoft_enroll_certtype\0" "szOID_ENROLLMENT_AGENT\0" "Certificate Request Agent\0"
-    "Enrollment Agent\0" "szOID_KP_SMARTCARD_LOGON\0" "msSmartcardLogin\0" "Microsoft Smartcard Login\0"
-    "id-pkinit-ms-eku\0" "Smart Card Logon\0" "Smartcard Login\0" "microsoft_smart_card_logon\0"
-    "szOID_NT_PRINCIPAL_NAME\0" "msUPN\0" "Microsoft User Principal Name\0" "id-pkinit-ms-san\0" "Principal Name\0"
-    "User Principal Name\0" "UPN\0" "szOID_CERT_MANIFOLD\0" "szOID_CERTSRV_CA_VERSION\0" "CA Version\0"
-    "szOID_CERTSRV_PREVIOUS_CERT_HASH\0" "Previous CA Certificate Hash\0", "szOID_CRL_VIRTUAL_BASE\0"
-    "Virtual Base CRL Number\0" "szOID_CRL_NEXT_PUBLISH\0" "Next CRL Publish\0" "szOID_KP_CA_EXCHANGE\0"
-    "Private Key Archival\0" "Certificate Authority Private Key Archival\0" "szOID_KP_KEY_RECOVERY_AGENT\0"
-    "Key Recovery Agent\0" "szOID_CERTIFICATE_TEMPLATE\0" "ms-cert-templ\0" "Microsoft certificate template\0"
-    "Certificate Template Information\0" "Certificate Template\0" "msCertificateTemplate\0"
-    "szOID_ENTERPRISE_OID_ROOT\0" "Dummy Signer\0" "szOID_APPLICATION_CERT_POLICIES\0" "ms-app-policies\0"
-    "Microsoft Application Policies Extension\0", "Application Policies\0" "Microsoft Certificate Policies\0"
-    "szOID_APPLICATION_POLICY_MAPPINGS\0" "Application Policy Mappings\0" "szOID_APPLICATION_POLICY_CONSTRAINTS\0"
-    "Application Policy Constraints\0" "szOID_ARCHIVED_KEY_ATTR\0" "Archived Key\0" "szOID_CRL_SELF_CDP\0"
-    "Published CRL Locations\0" "szOID_REQUIRE_CERT_CHAIN_POLICY\0" "Enforce Certificate Chain Policy\0"
-    "szOID_ARCHIVED_KEY_CERT_HASH\0" "Archived Key Certificate Hash\0" "szOID_ISSUED_CERT_HASH\0"
-    "szOID_DS_EMAIL_REPLICATION\0" "Directory Service Email Replication\0" "szOID_REQUEST_CLIENT_INFO\0",
-    "Client Information\0" "microsoft_request_client_info\0" "szOID_ENCRYPTED_KEY_HASH\0" "Encrypted Private Key\0"
-    "szOID_CERTSRV_CROSSCA_VERSION\0" "Cross CA Version\0" "szOID_ENROLL_CAXCHGCERT_HASH\0" "szOID_NTDS_REPLICATION\0"
-    "szOID_NTDS_CA_SECURITY_EXT\0" "ms-ntds-sec-ext\0" "Microsoft NTDS CA Extension\0" "szOID_NTDS_OBJECTSID\0"
-    "ms-ntds-obj-sid\0" "Microsoft NTDS AD objectSid\0" "Remote Desktop Authentication\0" "jurisdictionL\0"
-    "jurisdictionLocalityName\0" "szOID_EV_RDN_LOCALE\0" "Inc. Locality\0" "jurisdictionOfIncorporationLocalityName\0"
-    "incorporation_locality\0", "jurisdictionST\0" "jurisdictionStateOrProvinceName\0"
-    "szOID_EV_RDN_STATE_OR_PROVINCE\0" "Inc. State / Province\0" "jurisdictionOfIncorporationStateOrProvinceName\0"
-    "incorporation_state_or_province\0" "jurisdictionC\0" "jurisdictionCountryName\0" "szOID_EV_RDN_COUNTRY\0"
-    "Inc. Country\0" "jurisdictionOfIncorporationCountryName\0" "incorporation_country\0"
-    "szOID_KP_KERNEL_MODE_CODE_SIGNING\0" "Kernel Mode Code Signing\0" "msKernelCode\0" "MicrosoftKernelCodeSigning\0"
-    "ExtKeyUsageMicrosoftKernelCodeSigning\0" "BitLocker Drive Encryption\0" "BitLocker Data Recovery Agent\0",
-    "szOID_MICROSOFT_PUBLISHER_SIGNER\0" "authTimestamp\0" "timing_metrics\0" "timing_policy\0" "StartTLS\0"
-    "LDAP_EXOP_START_TLS\0" "BLAKE2BMAC\0" "blake2bmac\0" "BLAKE2b512\0" "blake2b512\0" "BLAKE2B-512\0" "BLAKE2SMAC\0"
-    "blake2smac\0" "BLAKE2s256\0" "blake2s256\0" "BLAKE2S-256\0" "ucdavis\0" "prTable\0" "prEntry\0" "prIndex\0"
-    "prNames\0" "prMin\0" "prMax\0" "prCount\0" "prErrorFlag\0" "prErrMessage\0" "prErrFix\0" "prErrFixCmd\0" "memory\0"
-    "memIndex\0" "memErrorName\0" "memTotalSwap\0" "memAvailSwap\0" "memTotalReal\0" "memAvailReal\0"
-    "memTotalSwapTXT\0" "memAvailSwapTXT\0" "memTotalRealTXT\0" "memAvailRealTXT\0" "memTotalFree\0" "memMinimumSwap\0"
-    "memShared\0", "memBuffer\0" "memCached\0" "memUsedSwapTXT\0" "memUsedRealTXT\0" "memTotalSwapX\0" "memAvailSwapX\0"
-    "memTotalRealX\0" "memAvailRealX\0" "memTotalFreeX\0" "memMinimumSwapX\0" "memSharedX\0" "memBufferX\0"
-    "memCachedX\0" "memSysAvail\0" "memSwapError\0" "memSwapErrorMsg\0" "extTable\0" "extEntry\0" "extIndex\0"
-    "extNames\0" "extCommand\0" "extResult\0" "extOutput\0" "extErrFix\0" "extErrFixCmd\0" "dskTable\0" "dskEntry\0"
-    "dskIndex\0" "dskPath\0" "dskDevice\0" "dskMinimum\0" "dskMinPercent\0" "dskTotal\0" "dskAvail\0" "dskUsed\0"
-    "dskPercent\0" "dskPercentNode\0" "dskTotalLow\0" "dskTotalHigh\0" "dskAvailLow\0" "dskAvailHigh\0" "dskUsedLow\0"
-    "dskUsedHigh\0" "dskErrorFlag\0", "dskErrorMsg\0" "laTable\0" "laEntry\0" "laIndex\0" "laNames\0" "laLoad\0"
-    "laConfig\0" "laLoadInt\0" "laLoadFloat\0" "laErrorFlag\0" "laErrMessage\0" "systemStats\0" "ssIndex\0"
-    "ssErrorName\0" "ssSwapIn\0" "ssSwapOut\0" "ssIOSent\0" "ssIOReceive\0" "ssSysInterrupts\0" "ssSysContext\0"
-    "ssCpuUser\0" "ssCpuSystem\0" "ssCpuIdle\0" "ssCpuRawUser\0" "ssCpuRawNice\0" "ssCpuRawSystem\0" "ssCpuRawIdle\0"
-    "ssCpuRawWait\0" "ssCpuRawKernel\0" "ssCpuRawInterrupt\0" "ssIORawSent\0" "ssIORawReceived\0" "ssRawInterrupts\0"
-    "ssRawContexts\0" "ssCpuRawSoftIRQ\0" "ssRawSwapIn\0" "ssRawSwapOut\0" "ssCpuRawSteal\0" "ssCpuRawGuest\0"
-    "ssCpuRawGuestNice\0" "ssCpuNumCpus\0", "ucdInternal\0" "ucdExperimental\0" "ucdIpFwAccMIB\0" "ipFwAccTable\0"
-    "ipFwAccEntry\0" "ipFwAccIndex\0" "ipFwAccSrcAddr\0" "ipFwAccSrcNetMask\0" "ipFwAccDstAddr\0" "ipFwAccDstNetMask\0"
-    "ipFwAccViaName\0" "ipFwAccViaAddr\0" "ipFwAccProto\0" "ipFwAccBidir\0" "ipFwAccDir\0" "ipFwAccBytes\0"
-    "ipFwAccPackets\0" "ipFwAccNrSrcPorts\0" "ipFwAccNrDstPorts\0" "ipFwAccSrcIsRange\0" "ipFwAccDstIsRange\0"
-    "ipFwAccPort1\0" "ipFwAccPort2\0" "ipFwAccPort3\0" "ipFwAccPort4\0" "ipFwAccPort5\0" "ipFwAccPort6\0"
-    "ipFwAccPort7\0" "ipFwAccPort8\0" "ipFwAccPort9\0" "ipFwAccPort10\0" "ucdDlmodMIB\0" "dlmodNextIndex\0"
-    "dlmodTable\0" "dlmodEntry\0" "dlmodIndex\0", "dlmodName\0" "dlmodPath\0" "dlmodError\0" "dlmodStatus\0"
-    "ucdDiskIOMIB\0" "diskIOTable\0" "diskIOEntry\0" "diskIOIndex\0" "diskIODevice\0" "diskIONRead\0" "diskIONWritten\0"
-    "diskIOReads\0" "diskIOWrites\0" "diskIOLA1\0" "diskIOLA5\0" "diskIOLA15\0" "diskIONReadX\0" "diskIONWrittenX\0"
-    "diskIOBusyTime\0" "lmSensors\0" "lmSensorsMIB\0" "lmTempSensorsTable\0" "lmTempSensorsEntry\0"
-    "lmTempSensorsIndex\0" "lmTempSensorsDevice\0" "lmTempSensorsValue\0" "lmFanSensorsTable\0" "lmFanSensorsEntry\0"
-    "lmFanSensorsIndex\0" "lmFanSensorsDevice\0" "lmFanSensorsValue\0" "lmVoltSensorsTable\0" "lmVoltSensorsEntry\0"
-    "lmVoltSensorsIndex\0", "lmVoltSensorsDevice\0" "lmVoltSensorsValue\0" "lmMiscSensorsTable\0" "lmMiscSensorsEntry\0"
-    "lmMiscSensorsIndex\0" "lmMiscSensorsDevice\0" "lmMiscSensorsValue\0" "ucdDemoMIB\0" "ucdDemoMIBObjects\0"
-    "ucdDemoPublic\0" "ucdDemoResetKeys\0" "ucdDemoPublicString\0" "ucdDemoUserList\0" "ucdDemoPassphrase\0"
-    "fileTable\0" "fileEntry\0" "fileIndex\0" "fileName\0" "fileSize\0" "fileMax\0" "fileErrorFlag\0" "fileErrorMsg\0"
-    "logMatch\0" "logMatchMaxEntries\0" "logMatchTable\0" "logMatchEntry\0" "logMatchIndex\0" "logMatchName\0"
-    "logMatchFilename\0" "logMatchRegEx\0" "logMatchGlobalCounter\0" "logMatchGlobalCount\0", "logMatchCurrentCounter\0"
-    "logMatchCurrentCount\0" "logMatchCounter\0" "logMatchCount\0" "logMatchCycle\0" "logMatchErrorFlag\0"
-    "logMatchRegExCompilation\0" "version\0" "versionIndex\0" "versionTag\0" "versionDate\0" "versionCDate\0"
-    "versionIdent\0" "versionConfigureOptions\0" "versionClearCache\0" "versionUpdateConfig\0" "versionRestartAgent\0"
-    "versionSavePersistentData\0" "versionDoDebugging\0" "snmperrs\0" "snmperrIndex\0" "snmperrNames\0"
-    "snmperrErrorFlag\0" "snmperrErrMessage\0" "mrTable\0" "mrEntry\0" "mrIndex\0" "mrModuleName\0" "ucdSnmpAgent\0"
-    "netbsd1\0" "ucdTraps\0" "ucdStart\0" "ucdShutdown\0", "id-attr-validation-parameters\0"
-    "id_attr_validation_parameters\0" "norEduOrgUniqueNumber\0" "norEduOrgUnitUniqueNumber\0" "norEduPersonBirthDate\0"
+    "lldpRemManAddrSubtype\0" "lldpRemManAddr\0" "lldpRemManAddrIfSubtype\0", "lldpRemManAddrIfId\0"
+    "lldpRemManAddrOID\0" "lldpExtensions\0" "eduPersonAffiliation\0" "eduPersonNickName\0" "eduPersonOrgDN\0"
+    "eduPersonOrgUnitDN\0" "eduPersonPrimaryAffiliation\0" "eduPersonPrincipalName\0" "eduPersonEntitlement\0"
+    "eduPersonPrimaryOrgUnitDN\0" "eduPersonScopedAffiliation\0" "eduPersonTargetedID\0" "eduPersonAssurance\0"
+    "eduPersonPrincipalNamePrior\0" "eduPersonUniqueId\0" "eduPersonOrcid\0" "eduPerson\0" "sisSchoolGrade\0"
+    "sisLegalGuardianFor\0" "sisOrgDepartment\0" "sisSchoolUnitCode\0" "norEduOrgUniqueNumber\0"
+    "norEduOrgSchemaVersion\0" "norEduOrgNIN\0", "norEduOrgUnitUniqueNumber\0" "norEduPersonBirthDate\0"
     "norEduPersonLIN\0" "norEduPersonNIN\0" "norEduOrgAcronym\0" "norEduOrgUniqueIdentifier\0"
-    "norEduOrgUnitUniqueIdentifier\0" "federationFeideSchemaVersion\0" "norEduOrgSchemaVersion\0" "norEduOrgNIN\0"
-    "BF-CBC\0" "bf-cbc\0" "Curve25519Legacy\0" "cv25519\0" "caseExactIA5SubstringsMatch\0" "entry\0" "children\0"
-    "OpenLDAProotDSE\0" "LDAProotDSE\0" "OpenLDAPorg\0" "OpenLDAPou\0" "OpenLDAPperson\0" "OpenLDAPdisplayableObject\0"
-    "LDAP_FEATURE_ALL_OP_ATTRS\0", "LDAP_FEATURE_ABSOLUTE_FILTERS\0" "LDAP_FEATURE_LANGUAGE_TAG_OPTIONS\0"
-    "LDAP_FEATURE_LANGUAGE_RANGE_OPTIONS\0" "LDAP_SYNC_OID\0" "LDAP_CONTROL_SUBENTRIES\0" "LDAP_EXOP_MODIFY_PASSWD\0"
-    "LDAP_EXOP_WHO_AM_I\0" "configContext\0" "dgIdentity\0" "dgAuthz\0" "dgMemberOf\0" "dgIdentityAux\0" "AttCertPath\0"
-    "PolicySyntax\0" "RoleSyntax\0" "pwdCheckModule\0" "pwdCheckModuleArg\0" "pwdPolicyChecker\0" "krb5PrincipalName\0"
-    "krb5KeyVersionNumber\0" "krb5MaxLife\0" "krb5MaxRenew\0" "krb5KDCFlags\0" "krb5EncryptionType\0" "krb5ValidStart\0"
-    "krb5ValidEnd\0" "krb5PasswordEnd\0" "krb5Key\0" "krb5PrincipalRealm\0" "krb5RealmName\0", "krb5Principal\0"
-    "krb5KDCEntry\0" "krb5Realm\0" "krbPwdMaxFailure\0" "krbPwdFailureCountInterval\0" "krbPwdLockoutDuration\0"
-    "krbAllowedToDelegateTo\0" "krbLastAdminUnlock\0" "namedObject\0" "namedPolicy\0" "eduPersonAffiliation\0"
-    "eduPersonNickName\0" "eduPersonOrgDN\0" "eduPersonOrgUnitDN\0" "eduPersonPrimaryAffiliation\0"
-    "eduPersonPrincipalName\0" "eppn\0" "eduPersonEntitlement\0" "eduPersonPrimaryOrgUnitDN\0"
-    "eduPersonScopedAffiliation\0" "eduPersonTargetedID\0" "eduPersonAssurance\0" "eduPersonPrincipalNamePrior\0"
-    "eduPersonUniqueId\0" "eduPersonOrcid\0" "eduPerson\0" "eduOrgHomePageURI\0", "eduOrgIdentityAuthNPolicyURI\0"
-    "eduOrgLegalName\0" "eduOrgSuperiorURI\0" "eduOrgWhitePagesURI\0" "isMemberOf\0" "eduCourseOffering\0"
-    "eduCourseMember\0" "sambaGroupType\0" "sambaSID\0" "sambaNextUserRid\0" "sambaNextGroupRid\0"
-    "sambaPrimaryGroupSID\0" "sambaLMPassword\0" "sambaNTPassword\0" "sambaAcctFlags\0" "sambaPwdLastSet\0"
-    "sambaPwdCanChange\0" "sambaPwdMustChange\0" "sambaLogonTime\0" "sambaLogoffTime\0" "sambaKickoffTime\0"
-    "sambaHomeDrive\0" "sambaLogonScript\0" "sambaProfilePath\0" "sambaUserWorkstations\0" "sambaHomePath\0"
-    "sambaDomainName\0" "sambaNextRid\0" "sambaAlgorithmicRidBase\0" "sambaShareName\0", "sambaOptionName\0"
-    "sambaBoolOption\0" "sambaIntegerOption\0" "sambaStringOption\0" "sambaStringListOption\0" "sambaMungedDial\0"
-    "sambaBadPasswordCount\0" "sambaBadPasswordTime\0" "sambaSIDList\0" "sambaTrustFlags\0" "sambaPasswordHistory\0"
-    "sambaLogonHours\0" "sambaMinPwdLength\0" "sambaPwdHistoryLength\0" "sambaLogonToChgPwd\0" "sambaMaxPwdAge\0"
-    "sambaMinPwdAge\0" "sambaLockoutDuration\0" "sambaLockoutObservationWindow\0" "sambaLockoutThreshold\0"
-    "sambaForceLogoff\0" "sambaRefuseMachinePwdChange\0" "sambaClearTextPassword\0" "sambaPreviousClearTextPassword\0"
-    "sambaTrustType\0", "sambaTrustAttributes\0" "sambaTrustDirection\0" "sambaTrustPartner\0" "sambaFlatName\0"
-    "sambaTrustAuthOutgoing\0" "sambaTrustAuthIncoming\0" "sambaSecurityIdentifier\0" "sambaTrustForestTrustInfo\0"
-    "sambaTrustPosixOffset\0" "sambaSupportedEncryptionTypes\0" "sambaGroupMapping\0" "sambaDomain\0"
-    "sambaSamAccount\0" "sambaUnixIdPool\0" "sambaIdmapEntry\0" "sambaSidEntry\0" "sambaConfig\0" "sambaShare\0"
-    "sambaConfigOption\0" "sambaTrustPassword\0" "sambaTrustedDomainPassword\0" "sambaTrustedDomain\0" "netSnmp\0"
-    "netSnmpObjects\0" "nsVersion\0" "nsMibRegistry\0" "nsModuleTable\0" "nsModuleEntry\0" "nsmContextName\0",
-    "nsmRegistrationPoint\0" "nsmRegistrationPriority\0" "nsModuleName\0" "nsModuleModes\0" "nsModuleTimeout\0"
-    "nsExtensions\0" "netSnmpExtendMIB\0" "nsExtendObjects\0" "nsExtendNumEntries\0" "nsExtendConfigTable\0"
-    "nsExtendConfigEntry\0" "nsExtendToken\0" "nsExtendCommand\0" "nsExtendArgs\0" "nsExtendInput\0"
-    "nsExtendCacheTime\0" "nsExtendExecType\0" "nsExtendRunType\0" "nsExtendStorage\0" "nsExtendStatus\0"
-    "nsExtendOutput1Table\0" "nsExtendOutput1Entry\0" "nsExtendOutput1Line\0" "nsExtendOutputFull\0"
-    "nsExtendOutNumLines\0" "nsExtendResult\0" "nsExtendOutput2Table\0" "nsExtendOutput2Entry\0" "nsExtendLineIndex\0",
-    "nsExtendOutLine\0" "nsExtendGroups\0" "nsExtendConfigGroup\0" "nsExtendOutputGroup\0" "nsDLMod\0" "nsCache\0"
-    "nsCacheDefaultTimeout\0" "nsCacheEnabled\0" "nsCacheTable\0" "nsCacheEntry\0" "nsCachedOID\0" "nsCacheTimeout\0"
-    "nsCacheStatus\0" "nsErrorHistory\0" "nsConfiguration\0" "nsConfigDebug\0" "nsDebugEnabled\0" "nsDebugOutputAll\0"
-    "nsDebugDumpPdu\0" "nsDebugTokenTable\0" "nsDebugTokenEntry\0" "nsDebugTokenPrefix\0" "nsDebugTokenStatus\0"
-    "nsConfigLogging\0" "nsLoggingTable\0" "nsLoggingEntry\0" "nsLogLevel\0" "nsLogToken\0" "nsLogType\0"
-    "nsLogMaxLevel\0" "nsLogStatus\0" "nsTransactions\0" "nsTransactionTable\0", "nsTransactionEntry\0"
-    "nsTransactionID\0" "nsTransactionMode\0" "netSnmpVacmMIB\0" "nsVacmAccessTable\0" "nsVacmAccessEntry\0"
-    "nsVacmAuthType\0" "nsVacmContextMatch\0" "nsVacmViewName\0" "nsVacmStorageType\0" "nsVacmStatus\0"
-    "netSnmpExamples\0" "netSnmpExampleScalars\0" "netSnmpExampleInteger\0" "netSnmpExampleSleeper\0"
-    "netSnmpExampleString\0" "netSnmpExampleTables\0" "netSnmpIETFWGTable\0" "netSnmpIETFWGEntry\0" "nsIETFWGName\0"
-    "nsIETFWGChair1\0" "nsIETFWGChair2\0" "netSnmpHostsTable\0" "netSnmpHostsEntry\0" "netSnmpHostName\0"
-    "netSnmpHostAddressType\0" "netSnmpHostAddress\0" "netSnmpHostStorage\0", "netSnmpHostRowStatus\0"
-    "netSnmpExampleNotifications\0" "netSnmpExampleNotificationPrefix\0" "netSnmpExampleHeartbeatNotification\0"
-    "netSnmpExampleNotification\0" "netSnmpExampleNotificationObjects\0" "netSnmpExampleHeartbeatRate\0"
-    "netSnmpExampleHeartbeatName\0" "netSnmpPassExamples\0" "netSnmpPassString\0" "netSnmpPassTable\0"
-    "netSnmpPassEntry\0" "netSnmpPassIndex\0" "netSnmpPassInteger\0" "netSnmpPassOID\0" "netSnmpPassTimeTicks\0"
-    "netSnmpPassIpAddress\0" "netSnmpPassCounter\0" "netSnmpPassGauge\0" "netSnmpPassCounter64\0"
-    "netSnmpPassInteger64\0" "netSnmpPassOIDValue\0", "netSnmpEnumerations\0" "netSnmpModuleIDs\0" "netSnmpTCs\0"
-    "netSnmpAgentMIB\0" "netSnmpAgentOIDs\0" "netbsd\0" "linux\0" "netSnmpDomains\0" "netSnmpTCPDomain\0"
-    "netSnmpUnixDomain\0" "netSnmpAAL5PVCDomain\0" "netSnmpUDPIPv6Domain\0" "netSnmpTCPIPv6Domain\0"
-    "netSnmpCallbackDomain\0" "netSnmpAliasDomain\0" "netSnmpDTLSUDPDomain\0" "netSnmpDTLSSCTPDomain\0"
-    "netSnmpTLSTCPDomain\0" "netSnmpNotificationPrefix\0" "netSnmpNotifications\0" "nsNotifyStart\0"
-    "nsNotifyShutdown\0" "nsNotifyRestart\0" "netSnmpNotificationObjects\0" "netSnmpConformance\0"
-    "netSnmpCompliances\0" "netSnmpGroups\0" "nsModuleGroup\0", "nsCacheGroup\0" "nsConfigGroups\0" "nsDebugGroup\0"
-    "nsLoggingGroup\0" "nsTransactionGroup\0" "nsAgentNotifyGroup\0" "netSnmpExperimental\0" "netSnmpPlaypen\0"
-    "ct_precert_scts\0" "CT Precertificate SCTs\0" "SignedCertificateTimestampList\0" "Embedded SCTs\0"
-    "Embedded Signed Certificate Timestamps\0" "signed_certificate_timestamp_list\0" "ct_precert_poison\0"
-    "CT Precertificate Poison\0" "ctPoison\0" "ct_precert_signer\0" "CT Precertificate Signer\0" "ct_cert_scts\0"
-    "CT Certificate SCTs\0" "id-scrypt\0" "scrypt\0" "Curve25519\0" "Ed25519Legacy\0" "sudoUser\0" "sudoHost\0"
-    "sudoCommand\0" "sudoRunAs\0" "sudoOption\0", "sudoRunAsUser\0" "sudoRunAsGroup\0" "sudoNotBefore\0"
-    "sudoNotAfter\0" "sudoOrder\0" "sudoRole\0" "LDAP_CONTROL_X_SESSION_TRACKING\0" "sshPublicKey\0" "ldapPublicKey\0"
+    "norEduOrgUnitUniqueIdentifier\0" "federationFeideSchemaVersion\0" "sshPublicKey\0" "eduOrgHomePageURI\0"
+    "eduOrgIdentityAuthNPolicyURI\0" "eduOrgLegalName\0" "eduOrgSuperiorURI\0" "eduOrgWhitePagesURI\0" "isMemberOf\0"
     "schacYearOfBirth\0" "schacMotherTongue\0" "schacGender\0" "schacDateOfBirth\0" "schacPlaceOfBirth\0"
     "schacCountryOfCitizenship\0" "schacSn1\0" "schacSn2\0" "schacPersonalTitle\0" "schacHomeOrganization\0"
-    "schacHomeOrganizationType\0" "schacCountryOfResidence\0" "schacUserPresenceID\0" "schacPersonalPosition\0"
+    "schacHomeOrganizationType\0", "schacCountryOfResidence\0" "schacUserPresenceID\0" "schacPersonalPosition\0"
     "schacPersonalUniqueCode\0" "schacPersonalUniqueID\0" "schacExpiryDate\0" "schacUserPrivateAttribute\0"
-    "schacUserStatus\0", "schacProjectMembership\0" "schacProjectSpecificRole\0" "id-kp-wisun-fan-device\0"
-    "Wi-SUN Alliance Field Area Network (FAN)\0" "id-ce-hashOfRootKey\0" "security\0" "Security\0" "kerberosV5\0"
-    "id-krb5\0" "id-pkinit-san\0" "id-pkinit\0" "id-pkinit-authData\0" "id-pkinit-DHKeyData\0" "id-pkinit-rkeyData\0"
-    "pkInitClientAuth\0" "PKINIT Client Auth\0" "id-pkinit-KPClientAuth\0" "pkinit_kpclientauth\0" "pkInitKDC\0"
-    "Signing KDC Response\0" "id-pkinit-KPKdc\0" "szOID_PKINIT_KP_KDC\0" "KDC Authentication\0" "pkinit_kpkdc\0"
-    "id-pkinit-kdf\0" "id-pkinit-kdf-ah-sha1\0" "id-pkinit-kdf-ah-sha256\0", "id-pkinit-kdf-ah-sha512\0"
-    "id-pkinit-kdf-ah-sha384\0" "gss_mech_iakerb\0" "SPKM-3\0" "SPNEGO\0" "snego\0" "PKIX\0" "szOID_PKIX\0" "id_pkix\0"
-    "id-pkix-mod\0" "id-pkix1-explicit-88\0" "id-pkix1-implicit-88\0" "id-pkix1-explicit-93\0" "id-pkix1-implicit-93\0"
-    "id-mod-crmf\0" "id-mod-cmc\0" "id-mod-kea-profile-88\0" "id-mod-kea-profile-93\0" "id-mod-cmp\0"
-    "id-mod-qualified-cert-88\0" "id-mod-qualified-cert-93\0" "id-mod-attribute-cert\0" "id-mod-timestamp-protocol\0"
-    "id-mod-ocsp\0" "id-mod-dvcs\0" "id-mod-cmp2000\0" "id-mod-cmp2000-02\0" "id-mod-cmp2021-88\0" "id-mod-cmp2021-02\0"
-    "szOID_PKIX_PE\0" "id_pe\0", "authorityInfoAccess\0" "Authority Information Access\0"
-    "szOID_AUTHORITY_INFO_ACCESS\0" "AuthInfoAccess\0" "authority_information_access\0" "id_pe_authorityInfoAccess\0"
-    "biometricInfo\0" "Biometric Info\0" "id-pe-biometricInfo\0" "szOID_BIOMETRIC_EXT\0" "qcStatements\0"
-    "id-pe-qcStatements\0" "szOID_QC_STATEMENTS_EXT\0" "ac-auditEntity\0" "ac-auditIdentity\0" "X509v3 Audit Identity\0"
-    "Audit Identity\0" "ac-targeting\0" "aaControls\0" "sbgp-ipAddrBlock\0" "id-pe-ipAddrBlocks\0"
-    "id_pe_ipAddrBlocks\0" "sbgp-autonomousSysNum\0" "id-pe-autonomousSysIds\0" "id_pe_autonomousSysIds\0",
-    "sbgp-routerIdentifier\0" "ac-proxying\0" "subjectInfoAccess\0" "Subject Information Access\0"
-    "szOID_SUBJECT_INFO_ACCESS\0" "Subject Info Access\0" "subject_information_access\0" "id_pe_subjectInfoAccess\0"
-    "id-pe-logotype\0" "szOID_LOGOTYPE_EXT\0" "id-pe-wlanSSID\0" "proxyCertInfo\0" "Proxy Certificate Information\0"
-    "id-pe-proxyCertInfo\0" "id-pe-cmsContentConstraints\0" "id-pe-wrappedApexContinKey\0"
-    "id-pe-clearanceConstraints\0" "id-pe-authorityClearanceConstraints\0" "tlsfeature\0" "TLS Feature\0"
-    "must-staple\0" "id-pe-tlsfeature\0" "szOID_TLS_FEATURES_EXT\0" "OCSP Stapling\0",
-    "Online Certificate Status Protocol Stapling\0" "TLS Features\0" "tls_feature\0" "id_pe_tlsfeature\0"
-    "id-pe-mud-url\0" "id-pe-TNAuthList\0" "id_pe_TNAuthList\0" "id-pe-JWTClaimConstraints\0" "sbgp-ipAddrBlockv2\0"
-    "id-pe-ipAddrBlocks-v2\0" "sbgp-autonomousSysNumv2\0" "id-pe-autonomousSysIds-v2\0" "id-pe-mudsigner\0"
-    "id-pe-acmeIdentifier\0" "acmeIdentifier\0" "id_qt\0" "Policy Qualifier CPS\0" "szOID_PKIX_POLICY_QUALIFIER_CPS\0"
-    "CPS\0" "PKIX CPS Pointer Qualifier\0" "certification_practice_statement\0" "id_qt_cps\0"
-    "Policy Qualifier User Notice\0" "szOID_PKIX_POLICY_QUALIFIER_USERNOTICE\0", "User Notice\0"
-    "PKIX User Notice Qualifier\0" "user_notice\0" "id_qt_unotice\0" "textNotice\0" "szOID_PKIX_KP\0" "id_kp\0"
-    "serverAuth\0" "TLS Web Server Authentication\0" "szOID_PKIX_KP_SERVER_AUTH\0" "Server Authentication\0"
-    "TLS WWW Server\0" "TLS Web Server Authentication Certificate\0" "ExtKeyUsageServerAuth\0" "server_auth\0"
-    "id_kp_serverAuth\0" "clientAuth\0" "TLS Web Client Authentication\0" "szOID_PKIX_KP_CLIENT_AUTH\0"
-    "Client Authentication\0" "TLS WWW Client\0" "TLS Web Client Authentication Certificate\0" "ExtKeyUsageClientAuth\0"
-    "client_auth\0" "id_kp_clientAuth\0" "codeSigning\0", "Code Signing\0" "szOID_PKIX_KP_CODE_SIGNING\0"
-    "Code Signing Certificate\0" "ExtKeyUsageCodeSigning\0" "code_signing\0" "id_kp_codeSigning\0" "emailProtection\0"
-    "E-mail Protection\0" "szOID_PKIX_KP_EMAIL_PROTECTION\0" "Secure Email\0" "Email protection\0"
-    "E-Mail Protection Certificate\0" "ExtKeyUsageEmailProtection\0" "email_protection\0" "id_kp_emailProtection\0"
-    "ipsecEndSystem\0" "IPSec End System\0" "id-kp-ipsecEndSystem\0" "szOID_PKIX_KP_IPSEC_END_SYSTEM\0"
-    "IP security end system\0" "ExtKeyUsageIPSECEndSystem\0" "ipsec_end_system\0" "id_kp_ipsecEndSystem\0"
-    "ipsecTunnel\0" "IPSec Tunnel\0", "id-kp-ipsecTunnel\0" "szOID_PKIX_KP_IPSEC_TUNNEL\0"
-    "IP security tunnel termination\0" "ExtKeyUsageIPSECTunnel\0" "ipsec_tunnel\0" "id_kp_ipsecTunnel\0" "ipsecUser\0"
-    "IPSec User\0" "id-kp-ipsecUser\0" "szOID_PKIX_KP_IPSEC_USER\0" "IP security user\0" "ExtKeyUsageIPSECUser\0"
-    "ipsec_user\0" "id_kp_ipsecUser\0" "timeStamping\0" "Time Stamping\0" "szOID_PKIX_KP_TIMESTAMP_SIGNING\0"
-    "Time Stamping Certifcate\0" "ExtKeyUsageTimeStamping\0" "time_stamping\0" "id_kp_timeStamping\0" "OCSPSigning\0"
-    "OCSP Signing\0" "ExtKeyUsageOCSPSigning\0" "ocsp_signing\0" "id_kp_OCSPSigning\0" "DVCS\0" "dvcs\0"
-    "id-kp-eapOverPPP\0", "eap_over_ppp\0" "id-kp-eapOverLAN\0" "eap_over_lan\0" "scvp_server\0" "scvp_client\0"
-    "ipsecIKE\0" "ipsec Internet Key Exchange\0" "Ipsec IKE\0" "IPsec IKE Certificate\0" "ipsec_ike\0" "capwapAC\0"
-    "Ctrl/provision WAP Access\0" "capwap_ac\0" "capwapWTP\0" "Ctrl/Provision WAP Termination\0" "capwap_wtp\0"
-    "id-kp-sipDomain\0" "sip_domain\0" "secureShellClient\0" "SSH Client\0" "id-kp-secureShellClient\0"
-    "secure_shell_client\0" "id_kp_secureShellClient\0" "secureShellServer\0" "SSH Server\0" "id-kp-secureShellServer\0"
-    "secure_shell_server\0" "id_kp_secureShellServer\0" "sendRouter\0" "Send Router\0" "send_router\0",
-    "sendProxiedRouter\0" "Send Proxied Router\0" "send_proxied_router\0" "sendOwner\0" "Send Owner\0" "send_owner\0"
-    "sendProxiedOwner\0" "Send Proxied Owner\0" "send_proxied_owner\0" "cmcCA\0" "CMC Certificate Authority\0"
-    "id-kp-cmcCA\0" "cmc_ca\0" "cmcRA\0" "CMC Registration Authority\0" "id-kp-cmcRA\0" "id-kp-cmcArchive\0" "cmc_ra\0"
-    "cmcArchive\0" "CMC Archive Server\0" "cmc_archive\0" "id-kp-bgpsec-router\0" "BGPsec Router\0" "bgpspec_router\0"
-    "id-kp-BrandIndicatorforMessageIdentification\0" "Brand Indicator for Message Identification\0" "cmKGA\0"
-    "Certificate Management Key Generation Authority\0", "id-it-subscriptionRequest\0" "id-it-subscriptionResponse\0"
-    "id-it-caCerts\0" "id-it-rootCaKeyUpdate\0" "id-it-certReqTemplate\0" "id-it-rootCaCert\0" "id-it-certProfile\0"
-    "id-it-crlStatusList\0" "id-it-crls\0" "id-regCtrl-altCertTemplate\0" "id-regCtrl-algId\0" "id-regCtrl-rsaKeyLen\0"
-    "id-alg-des40\0" "id-alg-dh-sig-hmac-sha1\0" "id-dh-sig-hmac-sha1\0" "id-dhPop-static-sha1-hmac-sha1\0"
-    "id-alg-dh-pop\0" "id-RSASSA-PSS-SHAKE128\0" "id-RSASSA-PSS-SHAKE256\0" "id-ecdsa-with-shake128\0"
-    "id-ecdsa-with-shake256\0" "id-cmc-raIdentityWitness\0" "id-cmc-changeSubjectName\0" "id-cmc-responseBody\0",
-    "id-on-personalData\0" "id-on-permanentIdentifier\0" "Permanent Identifier\0" "Hardware Module Name\0"
-    "id-on-xmppAddr\0" "XmppAddr\0" "id-on-SIM\0" "id-on-dnsSRV\0" "SRVName\0" "id-on-NAIRealm\0" "NAIRealm\0"
-    "id-on-SmtpUTF8Mailbox\0" "Smtp UTF8 Mailbox\0" "id-pda-dateOfBirth\0" "pda_date_of_birth\0" "id-pda-placeOfBirth\0"
-    "placeOfBirth\0" "pda_place_of_birth\0" "id-pda-gender\0" "gender\0" "pda_gender\0" "id-pda-countryOfCitizenship\0"
-    "countryOfCitizenship\0" "pda_country_of_citizenship\0" "id-pda-countryOfResidence\0" "countryOfResidence\0"
-    "pda_country_of_residence\0" "authentication_info\0" "access_identity\0", "charging_identity\0" "id-aca-role\0"
-    "id-aca-wlanSSID\0" "id-qcs-pkixQCSyntax-v1\0" "id-qcs-pkixQCSyntax-v2\0" "id-cct-crs\0" "ipAddr-asNumber\0"
-    "ipAddr-asNumberv2\0" "id-ri-ocsp-response\0" "ocsp_response\0" "id-ri-scvp\0" "scvp\0" "id-logo-loyalty\0"
-    "id-logo-background\0" "id-logo-certImage\0" "id-ppl-anyLanguage\0" "Any language\0" "id-ppl-inheritAll\0"
-    "Inherit all\0" "id-ppl-independent\0" "Independent\0" "szOID_PKIX_ACC_DESCR\0" "id_ad\0" "OCSP\0"
-    "szOID_PKIX_OCSP\0" "Online Certificate Status Protocol (OCSP)\0" "PKIX Online Certificate Status Protocol\0"
-    "id_ad_ocsp\0" "id_pkix_ocsp\0" "basicOCSPResponse\0", "Basic OCSP Response\0"
-    "szOID_PKIX_OCSP_BASIC_SIGNED_RESPONSE\0" "OCSPBasicResponse\0" "OCSP Basic Response\0" "basic_ocsp_response\0"
-    "id_pkix_ocsp_basic\0" "Nonce\0" "OCSP Nonce\0" "szOID_PKIX_OCSP_NONCE\0" "OCSPNonce\0" "OCSPNonceExt\0"
-    "OCSP Nonce Extension\0" "id_pkix_ocsp_nonce\0" "CrlID\0" "OCSP CRL ID\0" "crl\0" "acceptableResponses\0"
-    "Acceptable OCSP Responses\0" "acceptable_responses\0" "noCheck\0" "OCSP No Check\0" "szOID_PKIX_OCSP_NOCHECK\0"
-    "OCSPNoCheck\0" "OCSP No Check Extension\0" "ocsp_no_check\0" "id_pkix_ocsp_nocheck\0" "archiveCutoff\0"
-    "OCSP Archive Cutoff\0" "archive_cutoff\0" "serviceLocator\0", "OCSP Service Locator\0" "service_locator\0"
-    "extendedStatus\0" "Extended OCSP Status\0" "preferred_signature_algorithms\0" "valid\0" "extended_revoke\0"
-    "path\0" "trustRoot\0" "Trust Root\0" "caIssuers\0" "CA Issuers\0" "szOID_PKIX_CA_ISSUERS\0"
-    "PKIX CA issuers access method\0" "ca_issuers\0" "id_ad_caIssuers\0" "ad_timestamping\0" "AD Time Stamping\0"
-    "szOID_PKIX_TIME_STAMPING\0" "id_ad_timeStamping\0" "AD_DVCS\0" "ad dvcs\0" "caRepository\0" "CA Repository\0"
-    "szOID_PKIX_CA_REPOSITORY\0" "ca_repository\0" "id_ad_caRepository\0" "id-ad-http-certs\0" "id-ad-http-crls\0"
-    "rpkiManifest\0" "RPKI Manifest\0" "id-ad-rpkiManifest\0", "signedObject\0" "Signed Object\0" "id-ad-signedObject\0"
-    "id-ad-cmc\0" "rpkiNotify\0" "RPKI Notify\0" "id-ad-stirTNList\0" "HMAC-MD5\0" "hmac-md5\0" "IPsec IKE End\0"
-    "szOID_IPSEC_KP_IKE_INTERMEDIATE\0" "IP security IKE intermediate\0" "Internet Key Exchange (IKE)\0"
-    "IPsec IKE Intermediate\0" "ike_intermediate\0" "LIPKEY\0" "GSS_C_NT_ANONYMOUS\0" "GSS_C_NT_EXPORT_NAME\0"
-    "snmpV2\0" "snmpv2\0" "SNMPv2\0" "snmpDomains\0" "snmpProxys\0" "snmpModules\0" "snmpMIB\0" "snmpMIBObjects\0"
-    "snmpTrap\0" "snmpTrapOID\0" "snmpTrapEnterprise\0" "snmpTraps\0" "coldStart\0" "warmStart\0" "linkDown\0"
-    "linkUp\0" "authenticationFailure\0" "snmpSet\0", "snmpSetSerialNo\0" "snmpMIBConformance\0" "snmpMIBCompliances\0"
-    "snmpBasicCompliance\0" "snmpBasicComplianceRev2\0" "snmpMIBGroups\0" "snmpSetGroup\0" "systemGroup\0"
-    "snmpBasicNotificationsGroup\0" "snmpGroup\0" "snmpCommunityGroup\0" "snmpObsoleteGroup\0"
-    "snmpWarmStartNotificationGroup\0" "snmpNotificationGroup\0" "snmpFrameworkMIB\0" "snmpFrameworkAdmin\0"
-    "snmpAuthProtocols\0" "usmNoAuthProtocol\0" "usmHMACMD5AuthProtocol\0" "usmHMACSHAAuthProtocol\0"
-    "snmpPrivProtocols\0" "usmNoPrivProtocol\0" "usmDESPrivProtocol\0" "snmpFrameworkMIBObjects\0" "snmpEngine\0"
-    "snmpEngineID\0" "snmpEngineBoots\0", "snmpEngineTime\0" "snmpEngineMaxMessageSize\0" "snmpUsmMIB\0"
-    "usmMIBObjects\0" "usmStats\0" "usmStatsUnsupportedSecLevels\0" "usmStatsNotInTimeWindows\0"
-    "usmStatsUnknownUserNames\0" "usmStatsUnknownEngineIDs\0" "usmStatsWrongDigests\0" "usmStatsDecryptionErrors\0"
-    "usmUser\0" "usmUserSpinLock\0" "usmUserTable\0" "usmUserEntry\0" "usmUserEngineID\0" "usmUserName\0"
-    "usmUserSecurityName\0" "usmUserCloneFrom\0" "usmUserAuthProtocol\0" "usmUserAuthKeyChange\0"
-    "usmUserOwnAuthKeyChange\0" "usmUserPrivProtocol\0" "usmUserPrivKeyChange\0" "usmUserOwnPrivKeyChange\0"
-    "usmUserPublic\0" "usmUserStorageType\0", "usmUserStatus\0" "snmpVacmMIB\0" "vacmMIBObjects\0" "vacmContextTable\0"
-    "vacmContextEntry\0" "vacmContextName\0" "vacmContextStatus\0" "vacmSecurityToGroupTable\0"
-    "vacmSecurityToGroupEntry\0" "vacmSecurityModel\0" "vacmSecurityName\0" "vacmGroupName\0"
-    "vacmSecurityToGroupStorageType\0" "vacmSecurityToGroupStatus\0" "vacmAccessTable\0" "vacmAccessEntry\0"
-    "vacmAccessContextPrefix\0" "vacmAccessSecurityModel\0" "vacmAccessSecurityLevel\0" "vacmAccessContextMatch\0"
-    "vacmAccessReadViewName\0" "vacmAccessWriteViewName\0" "vacmAccessNotifyViewName\0" "vacmAccessStorageType\0"
-    "vacmAccessStatus\0", "vacmMIBViews\0" "vacmViewSpinLock\0" "vacmViewTreeFamilyTable\0" "vacmViewTreeFamilyEntry\0"
-    "vacmViewTreeFamilyViewName\0" "vacmViewTreeFamilySubtree\0" "vacmViewTreeFamilyMask\0" "vacmViewTreeFamilyType\0"
-    "vacmViewTreeFamilyStorageType\0" "vacmViewTreeFamilyStatus\0" "Mail\0" "mime-mhs\0" "MIME MHS\0"
-    "mime-mhs-headings\0" "id-hex-partial-message\0" "id-hex-multipart-message\0" "mime-mhs-bodies\0" "oiw\0"
-    "algorithm\0" "RSA-NP-MD5\0" "md5WithRSA\0" "DES-ECB\0" "des-ecb\0" "DES-CBC\0" "des-cbc\0" "desCBC\0" "DES/CBC\0"
-    "DES\0" "DES-OFB\0" "des-ofb\0" "DES-CFB\0" "des-cfb\0" "des_mac\0" "rsaSignature\0" "DSA-old\0"
-    "dsaEncryption-old\0", "DSA-SHA\0" "dsaWithSHA\0" "RSA-SHA\0" "shaWithRSAEncryption\0" "DES-EDE\0" "des-ede\0"
-    "DES-EDE-ECB\0" "DESede\0" "SHA\0" "sha\0" "SHA-1\0" "SHA1\0" "sha1\0" "SSL3-SHA1\0" "sha_1\0" "id_sha1\0"
-    "DSA-SHA1-old\0" "dsaWithSHA1-old\0" "RSA-SHA1-2\0" "sha1WithRSA\0" "id-mmhs-CDT\0" "RIPEMD160\0" "ripemd160\0"
-    "RIPEMD\0" "RIPEMD-160\0" "RMD160\0" "RSA-RIPEMD160\0" "ripemd160WithRSA\0" "RSA-RMD160\0" "x509ExtAdmission\0"
-    "Professional Information or basis for Admission\0" "Admissions\0" "SXNetID\0" "Strong Extranet ID\0" "X25519\0"
-    "ECDH (X25519)\0" "id_X25519\0" "X448\0" "ECDH (X448)\0" "id_X448\0" "Ed25519\0" "ED25519\0" "EdDSA-Ed25519\0"
-    "EdDSA (Ed25519)\0" "PureEd25519\0", "id_Ed25519\0" "Ed448\0" "ED448\0" "EdDSA-Ed448\0" "EdDSA (Ed448)\0"
-    "id_Ed448\0" "ieee\0" "ieee-siswg\0" "IEEE Security in Storage Working Group\0" "AES-128-XTS\0" "aes-128-xts\0"
-    "AES-256-XTS\0" "aes-256-xts\0" "certicom-arc\0" "K-163\0" "NIST K-163\0" "nistk163\0" "sect163r1\0" "sect239k1\0"
-    "sect113r1\0" "sect113r2\0" "secp112r1\0" "secp112r2\0" "secp160r1\0" "secp160k1\0" "secp256k1\0" "B-163\0"
-    "NIST B-163\0" "K-283\0" "NIST K-283\0" "nistk283\0" "B-283\0" "NIST B-283\0" "sect131r1\0" "sect131r2\0"
-    "sect193r1\0" "sect193r2\0" "K-233\0" "NIST K-233\0" "nistk233\0" "B-233\0" "NIST B-233\0" "nistb233\0"
-    "secp128r1\0" "secp128r2\0" "secp160r2\0" "secp192k1\0" "secp224k1\0" "P-224\0" "NIST P-224\0", "P224\0"
-    "nistp224\0" "NIST224p\0" "P-384\0" "nistp384\0" "NIST P-384\0" "P384\0" "NIST384p\0" "P-521\0" "nistp521\0"
-    "NIST P-521\0" "P521\0" "NIST521p\0" "K-409\0" "NIST K-409\0" "nistk409\0" "B-409\0" "NIST B-409\0" "nistb409\0"
-    "K-571\0" "NIST K-571\0" "nistt571\0" "B-571\0" "NIST B-571\0" "ECDH-ES\0" "ECDH\0" "id_ecDH\0"
-    "joint-iso-ccitt.1\0" "joint-iso-ccitt.2\0" "joint-iso-ccitt.3\0" "joint-iso-ccitt.4\0" "X500\0"
-    "directory services (X.500)\0" "joint-iso-ccitt.5\0" "selected-attribute-types\0" "Selected Attribute Types\0"
-    "clearance\0" "X509\0" "id_at\0" "aliasedEntryName\0" "id-at-commonName\0" "Common Name\0" "X520 Common Name\0"
-    "common_name\0" "id_at_commonName\0", "id-at-surname\0" "id_at_surname\0" "id-at-serialNumber\0" "Serial Number\0"
-    "X520 Serial Number\0" "serial_number\0" "id_at_serialNumber\0" "id-at-countryName\0" "X520 Country Name\0"
-    "country_name\0" "id_at_countryName\0" "id-at-localityName\0" "X520 Locality Name\0" "locality_name\0"
-    "id_at_localityName\0" "id-at-stateOrProvinceName\0" "S\0" "State / Province\0" "State/Province\0" "StateName\0"
-    "X520 State Or Province Name\0" "state_or_province_name\0" "id_at_stateOrProvinceName\0" "X520 Street Address\0"
-    "street_address\0" "id-at-organizationName\0" "OrgName\0" "X520 Organization Name\0" "organization_name\0",
-    "id_at_organizationName\0" "id-at-organizationalUnitName\0" "Organizational Unit\0" "OrgUnitName\0"
-    "X520 Organizational Unit Name\0" "organizational_unit_name\0" "id_at_organizationalUnitName\0" "id-at-title\0"
-    "T\0" "id_at_title\0" "Business Category\0" "business_category\0" "Postal Address\0" "Postal Code\0" "postal_code\0"
-    "POBox\0" "PO Box\0" "c-PhysicalDeliveryOfficeName\0" "Phone Number\0" "telephone_number\0" "fax\0" "Fax Number\0"
-    "See Also\0" "User Password\0" "id-at-userCertificate\0" "User Certificate\0" "id_at_userCertificate\0"
-    "CA Certificate\0" "Certificate Revocation List\0" "id-at-name\0" "id_at_name\0", "id-at-givenName\0" "G\0"
-    "Given Name\0" "X520 Given Name\0" "given_name\0" "id_at_givenName\0" "id-at-initials\0" "I\0" "id_at_initials\0"
-    "id-at-generationQualifier\0" "Generation Qualifier\0" "generation_qualifier\0" "id_at_generationQualifier\0"
-    "Unique Identifier\0" "unique_identifier\0" "id-at-dnQualifier\0" "DN Qualifier\0" "X520 DN Qualifier\0"
-    "dn_qualifier\0" "id_at_dnQualifier\0" "Distinguished Name\0" "House Identifier\0" "supported_algorithms\0"
-    "id-at-clearance\0" "id_at_clearance\0" "attributeCertificateAttribute\0" "attributeCertificateRevocationList\0"
-    "aACertificate\0", "attributeDescriptorCertificate\0" "attributeAuthorityRevocationList\0" "id-at-pseudonym\0"
-    "id_at_pseudonym\0" "id-at-pkiPath\0" "privPolicy\0" "role\0" "delegationPath\0" "protPrivPolicy\0"
-    "xmlPrivilegeInfo\0" "xmlPrivPolicy\0" "organizationIdentifier\0" "organization_identifier\0" "c3\0"
-    "countryCode3c\0" "n3\0" "countryCode3n\0" "dnsName\0" "pmiUser\0" "pmiAA\0" "pmiSOA\0" "attCertCRLDistributionPt\0"
-    "privilegePolicy\0" "pmiDelegationPath\0" "protectedPrivilegePolicy\0" "X500algorithms\0"
-    "directory services - algorithms\0" "RSA\0" "rsa\0" "RSA-MDC2\0" "mdc2WithRSA\0" "MDC2\0" "mdc2\0"
-    "octetStringSubstringsMatch\0", "attributeCertificateExactMatch\0" "attributeCertificateMatch\0" "hasSubordinates\0"
-    "id_ce\0" "szOID_AUTHORITY_KEY_IDENTIFIER\0" "szOID_KEY_ATTRIBUTES\0" "szOID_KEY_USAGE_RESTRICTION\0"
-    "szOID_SUBJECT_ALT_NAME\0" "szOID_ISSUER_ALT_NAME\0" "subjectDirectoryAttributes\0"
-    "X509v3 Subject Directory Attributes\0" "szOID_SUBJECT_DIR_ATTRS\0" "Subject Directory Attributes\0"
-    "Certificate Subject Directory Attributes\0" "subject_directory_attributes\0" "szOID_BASIC_CONSTRAINTS\0"
-    "subjectKeyIdentifier\0" "X509v3 Subject Key Identifier\0" "szOID_SUBJECT_KEY_IDENTIFIER\0",
-    "Subject Key Identifier\0" "Subject Key ID\0" "SubjectKeyID\0" "Certificate Subject Key ID\0" "key_identifier\0"
-    "id_ce_subjectKeyIdentifier\0" "keyUsage\0" "X509v3 Key Usage\0" "szOID_KEY_USAGE\0" "Key Usage\0" "Key Usages\0"
-    "Certificate Key Usage\0" "key_usage\0" "id_ce_keyUsage\0" "privateKeyUsagePeriod\0"
-    "X509v3 Private Key Usage Period\0" "szOID_PRIVATEKEY_USAGE_PERIOD\0" "Private Key Usage Period\0"
-    "PrivateKeyUsage\0" "Certificate Private Key Usage Period\0" "private_key_usage_period\0" "subjectAltName\0"
-    "X509v3 Subject Alternative Name\0" "szOID_SUBJECT_ALT_NAME2\0", "Subject Alternative Name\0" "Subject Alt Names\0"
-    "Subject Alternative Names\0" "SubjectAlternativeName\0" "Certificate Subject Alt Name\0" "subject_alt_name\0"
-    "id_ce_subjectAltName\0" "issuerAltName\0" "X509v3 Issuer Alternative Name\0" "szOID_ISSUER_ALT_NAME2\0"
-    "Issuer Alternative Name\0" "IssuerAlternativeName\0" "Certificate Issuer Alt Name\0" "issuer_alt_name\0"
-    "id_ce_issuerAltName\0" "basicConstraints\0" "X509v3 Basic Constraints\0" "szOID_BASIC_CONSTRAINTS2\0"
-    "Basic Constraints\0" "Certificate Basic Constraints\0" "basic_constraints\0" "id_ce_basicConstraints\0"
-    "crlNumber\0", "X509v3 CRL Number\0" "szOID_CRL_NUMBER\0" "CRL Number\0" "crl_number\0" "id_ce_cRLNumber\0"
-    "CRLReason\0" "X509v3 CRL Reason Code\0" "szOID_CRL_REASON_CODE\0" "CRL Reason Code\0" "ReasonCode\0" "crl_reason\0"
-    "id_ce_cRLReasons\0" "holdInstructionCode\0" "Hold Instruction Code\0" "szOID_REASON_CODE_HOLD\0"
-    "CRL Hold Instruction Code\0" "hold_instruction_code\0" "invalidityDate\0" "Invalidity Date\0" "invalidity_date\0"
-    "id_ce_invalidityDate\0" "deltaCRL\0" "X509v3 Delta CRL Indicator\0" "szOID_DELTA_CRL_INDICATOR\0"
-    "Delta CRL Indicator\0" "deltaCRLIndicator\0" "delta_crl_indicator\0" "id_ce_deltaCRLIndicator\0",
-    "issuingDistributionPoint\0" "X509v3 Issuing Distribution Point\0" "szOID_ISSUING_DIST_POINT\0"
-    "Issuing Distribution Point\0" "issuing_distribution_point\0" "id_ce_issuingDistributionPoint\0"
-    "certificateIssuer\0" "X509v3 Certificate Issuer\0" "Certificate Issuer\0" "Certificate Issuer Extension\0"
-    "certificate_issuer\0" "id_ce_certificateIssuer\0" "nameConstraints\0" "X509v3 Name Constraints\0"
-    "szOID_NAME_CONSTRAINTS\0" "Name Constraints\0" "Certificate Name Constraints\0" "name_constraints\0"
-    "id_ce_nameConstraints\0" "crlDistributionPoints\0" "X509v3 CRL Distribution Points\0", "szOID_CRL_DIST_POINTS\0"
-    "CRL Distribution Points\0" "CRL Endpoints\0" "Certificate Revocation List Endpoints\0" "crl_distribution_points\0"
-    "id_ce_cRLDistributionPoints\0" "certificatePolicies\0" "X509v3 Certificate Policies\0" "szOID_CERT_POLICIES\0"
-    "Certificate Policies\0" "certificate_policies\0" "id_ce_certificatePolicies\0" "X509v3 Any Policy\0"
-    "szOID_ANY_CERT_POLICY\0" "Any Policy\0" "All issuance policies\0" "Certificate Policies AnyPolicy\0" "any_policy\0"
-    "policyMappings\0" "X509v3 Policy Mappings\0" "szOID_POLICY_MAPPINGS\0" "Policy Mappings\0"
-    "Certificate Policy Mappings\0", "policy_mappings\0" "id_ce_policyMappings\0" "authorityKeyIdentifier\0"
-    "X509v3 Authority Key Identifier\0" "szOID_AUTHORITY_KEY_IDENTIFIER2\0" "Authority Key Identifier\0"
-    "Authority Key ID\0" "AuthorityKeyID\0" "Certificate Authority Key Identifier\0" "authority_key_identifier\0"
-    "id_ce_authorityKeyIdentifier\0" "policyConstraints\0" "X509v3 Policy Constraints\0" "szOID_POLICY_CONSTRAINTS\0"
-    "Policy Constraints\0" "Certificate Policy Constraints\0" "policy_constraints\0" "id_ce_policyConstraints\0"
-    "extendedKeyUsage\0" "X509v3 Extended Key Usage\0" "szOID_ENHANCED_KEY_USAGE\0", "Extended Key Usage\0"
-    "Enhanced Key Usage\0" "Extended Key Usages\0" "Key Purpose\0" "extended_key_usage\0" "id_ce_extKeyUsage\0"
-    "Any Extended Key Usage\0" "szOID_ANY_ENHANCED_KEY_USAGE\0" "Any Purpose\0" "ExtKeyUsageAny\0"
-    "any_extended_key_usage\0" "authorityAttributeIdentifier\0" "X509v3 Authority Attribute Identifier\0"
-    "Authority Attribute Identifier\0" "roleSpecCertIdentifier\0" "X509v3 Role Specification Certificate Identifier\0"
-    "Role Specification Certificate Identifier\0" "basicAttConstraints\0"
-    "X509v3 Basic Attribute Certificate Constraints\0", "Basic Attribute Certificate Constraints\0"
-    "delegatedNameConstraints\0" "X509v3 Delegated Name Constraints\0" "Delegated Name Constraints\0"
-    "timeSpecification\0" "X509v3 Time Specification\0" "Time Specification\0" "freshestCRL\0" "X509v3 Freshest CRL\0"
-    "szOID_FRESHEST_CRL\0" "Freshest CRL\0" "freshest_crl\0" "id_ce_freshestCRL\0" "attributeDescriptor\0"
-    "X509v3 Attribute Descriptor\0" "Attribute Descriptor\0" "userNotice\0" "X509v3 User Notice\0" "sOAIdentifier\0"
-    "X509v3 Source of Authority Identifier\0" "Source of Authority Identifier\0" "acceptableCertPolicies\0",
-    "X509v3 Acceptable Certification Policies\0" "Acceptable Certification Policies\0" "inhibitAnyPolicy\0"
-    "X509v3 Inhibit Any Policy\0" "szOID_INHIBIT_ANY_POLICY\0" "Inhibit Any Policy\0" "inhibit_any_policy\0"
-    "id_ce_inhibitAnyPolicy\0" "targetInformation\0" "X509v3 AC Targeting\0" "AC Targeting\0" "noRevAvail\0"
-    "X509v3 No Revocation Available\0" "No Revocation Available\0" "acceptablePrivPolicies\0"
-    "X509v3 Acceptable Privilege Policies\0" "Acceptable Privilege Policies\0" "indirectIssuer\0"
-    "X509v3 Indirect Issuer\0" "Indirect Issuer\0" "noAssertion\0" "X509v3 No Assertion\0", "No Assertion\0"
-    "aAissuingDistributionPoint\0" "X509v3 Attribute Authority Issuing Distribution Point\0"
-    "Attribute Authority Issuing Distribution Point\0" "issuedOnBehalfOf\0" "X509v3 Issued On Behalf Of\0"
-    "Issued On Behalf Of\0" "singleUse\0" "X509v3 Single Use\0" "Single Use\0" "groupAC\0"
-    "X509v3 Group Attribute Certificate\0" "Group Attribute Certificate\0" "allowedAttributeAssignments\0"
-    "X509v3 Allowed Attribute Assignments\0" "Allowed Attribute Assignments\0" "attributeMappings\0"
-    "X509v3 Attribute Mappings\0" "Attribute Mappings\0" "holderNameConstraints\0", "X509v3 Holder Name Constraints\0"
-    "Holder Name Constraints\0" "authorizationValidation\0" "X509v3 Authorization Validation\0"
-    "Authorization Validation\0" "protRestrict\0" "X509v3 Protocol Restriction\0" "Protocol Restriction\0"
-    "subjectAltPublicKeyInfo\0" "X509v3 Subject Alternative Public Key Info\0" "Subject Alternative Public Key Info\0"
-    "altSignatureAlgorithm\0" "X509v3 Alternative Signature Algorithm\0" "Alternative Signature Algorithm\0"
-    "altSignatureValue\0" "X509v3 Alternative Signature Value\0" "Alternative Signature Value\0"
-    "associatedInformation\0", "X509v3 Associated Information\0" "Associated Information\0" "joint-iso-ccitt.6\0"
-    "joint-iso-ccitt.9\0" "joint-iso-ccitt.16\0" "id-tamp\0" "id-clearanceSponsor\0" "id-deviceOwner\0"
-    "nistAlgorithm\0" "AES-128-ECB\0" "aes-128-ecb\0" "AES_128/ECB/NoPadding\0" "aes128_ecb\0" "AES-128-CBC\0"
-    "aes-128-cbc\0" "AES128\0" "aes128-CBC-PAD\0" "AES_128/CBC/NoPadding\0" "AES-128\0" "aes128_cbc\0" "id_aes128_CBC\0"
-    "AES-128-OFB\0" "aes-128-ofb\0" "AES_128/OFB/NoPadding\0" "aes128_ofb\0" "AES-128-CFB\0" "aes-128-cfb\0"
-    "AES_128/CFB/NoPadding\0" "aes128_cfb\0" "AES-128-WRAP\0" "AES128-WRAP\0" "A128KW\0" "AES_128/KW/NoPadding\0"
-    "AESWrap_128\0", "AES-128 Key Wrap\0" "aes128_wrap\0" "id_aes128_wrap\0" "aes-128-gcm\0" "A128GCM\0"
-    "AES_128/GCM/NoPadding\0" "aes128_gcm\0" "id_aes128_GCM\0" "aes-128-ccm\0" "aes128_ccm\0" "id-aes128-wrap-pad\0"
-    "AES-128-WRAP-PAD\0" "AES128-WRAP-PAD\0" "AES_128/KWP/NoPadding\0" "AESWrapPad_128\0" "aes128_wrap_pad\0"
-    "id_aes128_wrap_pad\0" "AES-192-ECB\0" "aes-192-ecb\0" "AES_192/ECB/NoPadding\0" "aes192_ecb\0" "AES-192-CBC\0"
-    "aes-192-cbc\0" "AES192\0" "aes192-CBC-PAD\0" "AES_192/CBC/NoPadding\0" "AES-192\0" "aes192_cbc\0" "id_aes192_CBC\0"
-    "AES-192-OFB\0" "aes-192-ofb\0" "AES_192/OFB/NoPadding\0" "aes192_ofb\0" "AES-192-CFB\0" "aes-192-cfb\0",
-    "AES_192/CFB/NoPadding\0" "aes192_cfb\0" "AES-192-WRAP\0" "AES192-WRAP\0" "A192KW\0" "AES_192/KW/NoPadding\0"
-    "AESWrap_192\0" "AES-192 Key Wrap\0" "aes192_wrap\0" "id_aes192_wrap\0" "aes-192-gcm\0" "A192GCM\0"
-    "AES_192/GCM/NoPadding\0" "aes192_gcm\0" "id_aes192_GCM\0" "aes-192-ccm\0" "aes192_ccm\0" "id-aes192-wrap-pad\0"
-    "AES-192-WRAP-PAD\0" "AES192-WRAP-PAD\0" "AES_192/KWP/NoPadding\0" "AESWrapPad_192\0" "aes192_wrap_pad\0"
-    "id_aes192_wrap_pad\0" "AES-256-ECB\0" "aes-256-ecb\0" "AES_256/ECB/NoPadding\0" "aes256_ecb\0" "AES-256-CBC\0"
-    "aes-256-cbc\0" "AES256\0" "aes256-CBC-PAD\0" "AES_256/CBC/NoPadding\0" "AES-256\0" "aes256_cbc\0",
-    "id_aes256_CBC\0" "AES-256-OFB\0" "aes-256-ofb\0" "AES_256/OFB/NoPadding\0" "aes256_ofb\0" "AES-256-CFB\0"
-    "aes-256-cfb\0" "AES_256/CFB/NoPadding\0" "aes256_cfb\0" "AES-256-WRAP\0" "AES256-WRAP\0" "A256KW\0"
-    "AES_256/KW/NoPadding\0" "AESWrap_256\0" "AES-256 Key Wrap\0" "aes256_wrap\0" "id_aes256_wrap\0" "aes-256-gcm\0"
-    "A256GCM\0" "AES_256/GCM/NoPadding\0" "aes256_gcm\0" "id_aes256_GCM\0" "aes-256-ccm\0" "aes256_ccm\0"
-    "id-aes256-wrap-pad\0" "AES-256-WRAP-PAD\0" "AES256-WRAP-PAD\0" "AES_256/KWP/NoPadding\0" "AESWrapPad_256\0"
-    "aes256_wrap_pad\0" "id_aes256_wrap_pad\0" "SHA-256\0" "SHA256\0" "sha256\0" "SHA2-256\0" "sha_256\0" "id_sha256\0"
-    "SHA-384\0", "SHA384\0" "sha384\0" "SHA2-384\0" "sha_384\0" "id_sha384\0" "SHA-512\0" "SHA512\0" "sha512\0"
-    "SHA2-512\0" "sha_512\0" "id_sha512\0" "SHA-224\0" "SHA224\0" "sha224\0" "SHA2-224\0" "sha_224\0" "id_sha224\0"
-    "SHA-512/224\0" "SHA512-224\0" "sha512-224\0" "SHA2-512/224\0" "id-sha512-224\0" "SHA512/224\0" "sha512_224\0"
-    "id_sha512_224\0" "SHA-512/256\0" "SHA512-256\0" "sha512-256\0" "SHA2-512/256\0" "id-sha512-256\0" "SHA512/256\0"
-    "sha512_256\0" "id_sha512_256\0" "SHA3-224\0" "sha3-224\0" "sha3_224\0" "SHA3-256\0" "sha3-256\0" "sha3_256\0"
-    "SHA3-384\0" "sha3-384\0" "sha3_384\0" "SHA3-512\0" "sha3-512\0" "sha3_512\0" "SHAKE128\0" "shake128\0"
-    "SHAKE-128\0" "SHAKE128-256\0" "shake_128\0" "SHAKE256\0", "shake256\0" "SHAKE-256\0" "SHAKE256-512\0" "shake_256\0"
-    "hmac-sha3-224\0" "HmacSHA3-224\0" "hmac-sha3-256\0" "HmacSHA3-256\0" "hmac-sha3-384\0" "HmacSHA3-384\0"
-    "hmac-sha3-512\0" "HmacSHA3-512\0" "SHAKE128-LEN\0" "shake128_len\0" "id-shake256-len\0" "SHAKE256-LEN\0"
-    "shake256_len\0" "KMAC128\0" "kmac128\0" "KMAC-128\0" "KMAC256\0" "kmac256\0" "KMAC-256\0" "dsa_with_SHA224\0"
-    "DSA-SHA2-224\0" "DSA-SHA224\0" "id-dsa-with-sha224\0" "SHA224withDSA\0" "DSA with SHA-224 Signature\0"
-    "sha224_dsa\0" "id_dsa_with_sha224\0" "dsa_with_SHA256\0" "DSA-SHA2-256\0" "DSA-SHA256\0" "id-dsa-with-sha256\0"
-    "DSA with SHA-256\0" "SHA256withDSA\0", "DSA with SHA-256 Signature\0" "DSAWithSHA256\0" "sha256_dsa\0"
-    "id_dsa_with_sha256\0" "id-dsa-with-sha384\0" "dsa_with_SHA384\0" "DSA-SHA2-384\0" "DSA-SHA384\0" "SHA384withDSA\0"
-    "id-dsa-with-sha512\0" "dsa_with_SHA512\0" "DSA-SHA2-512\0" "DSA-SHA512\0" "SHA512withDSA\0"
-    "id-dsa-with-sha3-224\0" "dsa_with_SHA3-224\0" "DSA-SHA3-224\0" "SHA3-224withDSA\0" "id-dsa-with-sha3-256\0"
-    "dsa_with_SHA3-256\0" "DSA-SHA3-256\0" "SHA3-256withDSA\0" "id-dsa-with-sha3-384\0" "dsa_with_SHA3-384\0"
-    "DSA-SHA3-384\0" "SHA3-384withDSA\0" "id-dsa-with-sha3-512\0" "dsa_with_SHA3-512\0" "DSA-SHA3-512\0"
-    "SHA3-512withDSA\0" "ecdsa_with_SHA3-224\0", "ECDSA-SHA3-224\0" "SHA3-224withECDSA\0" "sha3_224_ecdsa\0"
-    "ecdsa_with_SHA3-256\0" "ECDSA-SHA3-256\0" "SHA3-256withECDSA\0" "sha3_256_ecdsa\0" "ecdsa_with_SHA3-384\0"
-    "ECDSA-SHA3-384\0" "SHA3-384withECDSA\0" "sha3_384_ecdsa\0" "ecdsa_with_SHA3-512\0" "ECDSA-SHA3-512\0"
-    "SHA3-512withECDSA\0" "sha3_512_ecdsa\0" "id-rsassa-pkcs1-v1_5-with-sha3-224\0" "RSA-SHA3-224\0" "SHA3-224withRSA\0"
-    "id-rsassa-pkcs1-v1_5-with-sha3-256\0" "RSA-SHA3-256\0" "SHA3-256withRSA\0" "id-rsassa-pkcs1-v1_5-with-sha3-384\0"
-    "RSA-SHA3-384\0" "SHA3-384withRSA\0" "id-rsassa-pkcs1-v1_5-with-sha3-512\0" "RSA-SHA3-512\0" "SHA3-512withRSA\0",
-    "ML-DSA-44\0" "MLDSA44\0" "ML-DSA-65\0" "MLDSA65\0" "ML-DSA-87\0" "MLDSA87\0" "SLH-DSA-SHA2-128s\0"
-    "SLH-DSA-SHA2-128f\0" "SLH-DSA-SHA2-192s\0" "SLH-DSA-SHA2-192f\0" "SLH-DSA-SHA2-256s\0" "SLH-DSA-SHA2-256f\0"
-    "SLH-DSA-SHAKE-128s\0" "SLH-DSA-SHAKE-128f\0" "SLH-DSA-SHAKE-192s\0" "SLH-DSA-SHAKE-192f\0" "SLH-DSA-SHAKE-256s\0"
-    "SLH-DSA-SHAKE-256f\0" "HASH-ML-DSA-44-WITH-SHA512\0" "HASH-ML-DSA-65-WITH-SHA512\0" "HASH-ML-DSA-87-WITH-SHA512\0"
-    "SLH-DSA-SHA2-128s-WITH-SHA256\0" "SLH-DSA-SHA2-128f-WITH-SHA256\0" "SLH-DSA-SHA2-192s-WITH-SHA512\0"
-    "SLH-DSA-SHA2-192f-WITH-SHA512\0" "SLH-DSA-SHA2-256s-WITH-SHA512\0", "SLH-DSA-SHA2-256f-WITH-SHA512\0"
-    "SLH-DSA-SHAKE-128s-WITH-SHAKE128\0" "SLH-DSA-SHAKE-128f-WITH-SHAKE128\0" "SLH-DSA-SHAKE-192s-WITH-SHAKE256\0"
-    "SLH-DSA-SHAKE-192f-WITH-SHAKE256\0" "SLH-DSA-SHAKE-256s-WITH-SHAKE256\0" "SLH-DSA-SHAKE-256f-WITH-SHAKE256\0"
-    "ML-KEM-512\0" "MLKEM512\0" "ML-KEM-768\0" "MLKEM768\0" "ML-KEM-1024\0" "MLKEM1024\0" "piv_content_signing\0"
-    "piv_card_authentication\0" "fpki_pivi_content_signing\0" "krbPrincipalName\0" "krbPrincipalType\0" "krbUPEnabled\0"
-    "krbPrincipalExpiration\0" "krbTicketFlags\0" "krbMaxTicketLife\0" "krbMaxRenewableAge\0" "krbRealmReferences\0",
+    "schacUserStatus\0" "schacProjectMembership\0" "schacProjectSpecificRole\0" "eduCourseOffering\0"
+    "eduCourseMember\0" "eppn\0" "krbPrincipalName\0" "krbCanonicalName\0" "krbPrincipalType\0" "krbUPEnabled\0"
+    "krbPrincipalExpiration\0" "krbTicketFlags\0" "krbMaxTicketLife\0" "krbMaxRenewableAge\0" "krbRealmReferences\0"
     "krbLdapServers\0" "krbKdcServers\0" "krbPwdServers\0" "krbHostServer\0" "krbSearchScope\0"
-    "krbPrincipalReferences\0" "krbPrincNamingAttr\0" "krbAdmServers\0" "krbMaxPwdLife\0" "krbMinPwdLife\0"
-    "krbPwdMinDiffChars\0" "krbPwdMinLength\0" "krbPwdHistoryLength\0" "krbPwdPolicyReference\0"
-    "krbPasswordExpiration\0" "krbPrincipalKey\0" "krbTicketPolicyReference\0" "krbSubTrees\0"
-    "krbDefaultEncSaltTypes\0" "krbSupportedEncSaltTypes\0" "krbPwdHistory\0" "krbLastPwdChange\0" "krbMKey\0"
-    "krbPrincipalAliases\0" "krbLastSuccessfulAuth\0" "krbLastFailedAuth\0" "krbLoginFailedCount\0" "krbExtraData\0"
-    "krbObjectReferences\0", "krbPrincContainerRef\0" "krbContainer\0" "krbRealmContainer\0" "krbService\0"
-    "krbKdcService\0" "krbPwdService\0" "krbPrincipalAux\0" "krbPrincipal\0" "krbPrincRefAux\0" "krbAdmService\0"
-    "krbPwdPolicy\0" "krbTicketPolicyAux\0" "krbTicketPolicy\0" "Netscape\0" "Netscape Communications Corp.\0"
-    "nsCertExt\0" "Netscape Certificate Extension\0" "nsCertType\0" "Netscape Cert Type\0" "netscape_certificate_type\0"
-    "nsBaseUrl\0" "Netscape Base Url\0" "nsRevocationUrl\0" "Netscape Revocation Url\0" "nsCaRevocationUrl\0"
-    "Netscape CA Revocation Url\0" "nsRenewalUrl\0" "Netscape Renewal Url\0" "nsCaPolicyUrl\0",
-    "Netscape CA Policy Url\0" "nsSslServerName\0" "Netscape SSL Server Name\0" "nsComment\0" "Netscape Comment\0"
-    "nsDataType\0" "Netscape Data Type\0" "nsCertSequence\0" "Netscape Certificate Sequence\0" "changeNumber\0"
-    "targetDn\0" "changeType\0" "changes\0" "newRdn\0" "deleteOldRdn\0" "newSuperior\0" "mailLocalAddress\0"
-    "mailHost\0" "middleName\0" "thumbnailPhoto\0" "mailRoutingAddress\0" "changeTime\0" "memberURL\0" "nsUniqueId\0"
-    "changeLogEntry\0" "groupOfURLs\0" "inetLocalMailRecipient\0" "LDAP_CONTROL_MANAGEDSAIT\0"
-    "LDAP_CONTROL_PERSIST_REQUEST\0" "LDAP_CONTROL_X_PASSWORD_EXPIRED\0", "LDAP_CONTROL_X_PASSWORD_EXPIRING\0"
-    "LDAP_CONTROL_PERSIST_ENTRY_CHANGE_NOTICE\0" "LDAP_CONTROL_VLVREQUEST\0" "LDAP_CONTROL_VLVRESPONSE\0"
-    "LDAP_CONTROL_AUTHZID_RESPONSE\0" "LDAP_CONTROL_AUTHZID_REQUEST\0" "LDAP_CONTROL_PROXY_AUTHZ\0"
-    "krbPrincipalAuthInd\0" "nsSGC\0" "Netscape Server Gated Crypto\0" "NetscapeServerGatedCrypto\0"
-    "ExtKeyUsageNetscapeServerGatedCrypto\0" "oracle-organization\0" "Oracle organization\0"
-    "oracle-jdk-trustedkeyusage\0" "Trusted key usage (Oracle)\0" "trusted_key_usage\0" "joint-iso-ccitt.17\0"
-    "international-organizations\0", "International Organizations\0" "joint-iso-ccitt.23\0" "id-set\0"
-    "Secure Electronic Transactions\0" "set-ctype\0" "content types\0" "setct-PANData\0" "setct-PANToken\0"
-    "setct-PANOnly\0" "setct-OIData\0" "setct-PI\0" "setct-PIData\0" "setct-PIDataUnsigned\0" "setct-HODInput\0"
-    "setct-AuthResBaggage\0" "setct-AuthRevReqBaggage\0" "setct-AuthRevResBaggage\0" "setct-CapTokenSeq\0"
-    "setct-PInitResData\0" "setct-PI-TBS\0" "setct-PResData\0" "setct-AuthReqTBS\0" "setct-AuthResTBS\0"
-    "setct-AuthResTBSX\0" "setct-AuthTokenTBS\0" "setct-CapTokenData\0" "setct-CapTokenTBS\0" "setct-AcqCardCodeMsg\0"
-    "setct-AuthRevReqTBS\0", "setct-AuthRevResData\0" "setct-AuthRevResTBS\0" "setct-CapReqTBS\0" "setct-CapReqTBSX\0"
-    "setct-CapResData\0" "setct-CapRevReqTBS\0" "setct-CapRevReqTBSX\0" "setct-CapRevResData\0" "setct-CredReqTBS\0"
-    "setct-CredReqTBSX\0" "setct-CredResData\0" "setct-CredRevReqTBS\0" "setct-CredRevReqTBSX\0"
-    "setct-CredRevResData\0" "setct-PCertReqData\0" "setct-PCertResTBS\0" "setct-BatchAdminReqData\0"
-    "setct-BatchAdminResData\0" "setct-CardCInitResTBS\0" "setct-MeAqCInitResTBS\0" "setct-RegFormResTBS\0"
-    "setct-CertReqData\0" "setct-CertReqTBS\0" "setct-CertResData\0" "setct-CertInqReqTBS\0" "setct-ErrorTBS\0",
-    "setct-PIDualSignedTBE\0" "setct-PIUnsignedTBE\0" "setct-AuthReqTBE\0" "setct-AuthResTBE\0" "setct-AuthResTBEX\0"
-    "setct-AuthTokenTBE\0" "setct-CapTokenTBE\0" "setct-CapTokenTBEX\0" "setct-AcqCardCodeMsgTBE\0"
-    "setct-AuthRevReqTBE\0" "setct-AuthRevResTBE\0" "setct-AuthRevResTBEB\0" "setct-CapReqTBE\0" "setct-CapReqTBEX\0"
-    "setct-CapResTBE\0" "setct-CapRevReqTBE\0" "setct-CapRevReqTBEX\0" "setct-CapRevResTBE\0" "setct-CredReqTBE\0"
-    "setct-CredReqTBEX\0" "setct-CredResTBE\0" "setct-CredRevReqTBE\0" "setct-CredRevReqTBEX\0" "setct-CredRevResTBE\0"
-    "setct-BatchAdminReqTBE\0" "setct-BatchAdminResTBE\0", "setct-RegFormReqTBE\0" "setct-CertReqTBE\0"
-    "setct-CertReqTBEX\0" "setct-CertResTBE\0" "setct-CRLNotificationTBS\0" "setct-CRLNotificationResTBS\0"
-    "setct-BCIDistributionTBS\0" "set-msgExt\0" "message extensions\0" "setext-genCrypt\0" "generic cryptogram\0"
-    "setext-miAuth\0" "merchant initiated auth\0" "setext-pinSecure\0" "setext-pinAny\0" "setext-track2\0" "setext-cv\0"
-    "additional verification\0" "set-attr\0" "setAttr-Cert\0" "set-rootKeyThumb\0" "set-addPolicy\0" "setAttr-PGWYcap\0"
-    "payment gateway capabilities\0" "setAttr-TokenType\0" "setAttr-Token-EMV\0" "setAttr-Token-B0Prime\0"
-    "setAttr-IssCap\0", "issuer capabilities\0" "setAttr-IssCap-CVM\0" "setAttr-GenCryptgrm\0" "generate cryptogram\0"
-    "setAttr-IssCap-T2\0" "setAttr-T2Enc\0" "encrypted track 2\0" "setAttr-T2cleartxt\0" "cleartext track 2\0"
-    "setAttr-IssCap-Sig\0" "setAttr-TokICCsig\0" "ICC or token signature\0" "setAttr-SecDevSig\0"
-    "secure device signature\0" "set-policy\0" "set-policy-root\0" "set-certExt\0" "certificate extensions\0"
-    "setCext-hashedRoot\0" "setCext-certType\0" "setCext-merchData\0" "setCext-cCertRequired\0" "setCext-tunneling\0"
-    "setCext-setExt\0" "setCext-setQualf\0" "setCext-PGWYcapabilities\0" "setCext-TokenIdentifier\0",
-    "setCext-Track2Data\0" "setCext-TokenType\0" "setCext-IssuerCapabilities\0" "set-brand\0" "set-brand-IATA-ATA\0"
-    "set-brand-Visa\0" "set-brand-MasterCard\0" "set-brand-Diners\0" "set-brand-AmericanExpress\0" "set-brand-JCB\0"
-    "set-brand-Novus\0" "wap\0" "wap-wsg\0" "wap-wsg-idm-ecid-wtls1\0" "wap-wsg-idm-ecid-wtls3\0"
-    "wap-wsg-idm-ecid-wtls4\0" "wap-wsg-idm-ecid-wtls5\0" "wap-wsg-idm-ecid-wtls6\0" "wap-wsg-idm-ecid-wtls7\0"
-    "wap-wsg-idm-ecid-wtls8\0" "wap-wsg-idm-ecid-wtls9\0" "wap-wsg-idm-ecid-wtls10\0" "wap-wsg-idm-ecid-wtls11\0"
-    "wap-wsg-idm-ecid-wtls12\0" "tcg\0" "Trusted Computing Group\0", "Trusted Computing Group Attributes\0"
-    "TPM Manufacturer\0" "tpm_manufacturer\0" "TPM Model\0" "tpm_model\0" "TPM Version\0" "tpm_version\0"
-    "platform_manufacturer\0" "platform_model\0" "platform_version\0" "Security Qualities\0" "TPM Protection Profile\0"
-    "TPM Security Target\0" "TBB Protection Profile\0" "TBB Security Target\0" "TPM ID Label\0" "TPM Specification\0"
-    "tpm_specification\0" "TPM Platform Specification\0" "tcg_platform_specification\0" "TPM Security Assertions\0"
-    "tpm_security_assertions\0" "TBB Security Assertions\0" "tcg-at-tcgCredentialSpecification\0",
-    "TCG Credential Specification\0" "tcg-at-tcgCredentialType\0" "TCG Credential Type\0"
-    "tcg-at-previousPlatformCertificates\0" "TCG Previous Platform Certificates\0" "tcg-at-tbbSecurityAssertions-v3\0"
-    "TCG TBB Security Assertions V3\0" "tcg-at-cryptographicAnchors\0" "TCG Cryptographic Anchors\0"
-    "Trusted Computing Group Protocols\0" "TCG TPM Protocol\0" "Trusted Computing Group Algorithms\0"
-    "TCG NULL Algorithm\0" "tcg-platformClass\0" "Trusted Computing Group Platform Classes\0" "tcg-common\0"
-    "Trusted Computing Group Common\0" "tcg-at-platformManufacturerStr\0", "TCG Platform Manufacturer String\0"
-    "tcg-at-platformManufacturerId\0" "TCG Platform Manufacturer ID\0" "tcg-at-platformConfigUri\0"
-    "TCG Platform Configuration URI\0" "tcg-at-platformModel\0" "TCG Platform Model\0" "tcg-at-platformVersion\0"
-    "TCG Platform Version\0" "tcg-at-platformSerial\0" "TCG Platform Serial Number\0" "tcg-at-platformConfiguration\0"
-    "TCG Platform Configuration\0" "tcg-at-platformConfiguration-v1\0" "Platform Configuration Version 1\0"
-    "tcg-at-platformConfiguration-v2\0" "Platform Configuration Version 2\0" "tcg-at-platformConfiguration-v3\0",
-    "Platform Configuration Version 3\0" "tcg-at-platformConfigUri-v3\0" "Platform Configuration URI Version 3\0"
-    "tcg-at-platformIdentifier\0" "TCG Platform Identifier\0" "Trusted Computing Group Certificate Extensions\0"
-    "Relevant Credentials\0" "Relevant Manifests\0" "Virtual Platform Attestation Service\0"
-    "Migration Controller Attestation Service\0" "Migration Controller Registration Service\0"
-    "Virtual Platform Backup Service\0" "Trusted Computing Group Key Purposes\0" "Endorsement Key Certificate\0"
-    "tcg-kp-PlatformAttributeCertificate\0", "Platform Attribute Certificate\0" "Platform Certificate\0"
-    "Attestation Identity Key Certificate\0" "tcg-kp-PlatformKeyCertificate\0" "Platform Key Certificate\0"
-    "tcg-kp-DeltaPlatformAttributeCertificate\0" "Delta Platform Attribute Certificate\0"
-    "tcg-kp-DeltaPlatformKeyCertificate\0" "Delta Platform Key Certificate\0"
-    "tcg-kp-AdditionalPlatformAttributeCertificate\0" "Additional Platform Attribute Certificate\0"
-    "tcg-kp-AdditionalPlatformKeyCertificate\0" "Additional Platform Key Certificate\0" "tcg-ca\0"
-    "Trusted Computing Group Certificate Policies\0", "tcg-cap-verifiedPlatformCertificate\0"
-    "TCG Verified Platform Certificate CA Policy\0" "tcg-address\0" "Trusted Computing Group Address Formats\0"
-    "tcg-address-ethernetmac\0" "Ethernet MAC Address\0" "tcg-address-wlanmac\0" "WLAN MAC Address\0"
-    "tcg-address-bluetoothmac\0" "Bluetooth MAC Address\0" "tcg-registry\0" "Trusted Computing Group Registry\0"
-    "tcg-registry-componentClass\0" "TCG Component Class\0" "tcg-registry-componentClass-tcg\0"
-    "Trusted Computed Group Registry\0" "tcg-registry-componentClass-ietf\0"
-    "Internet Engineering Task Force Registry\0", "tcg-registry-componentClass-dmtf\0"
-    "Distributed Management Task Force Registry\0" "tcg-registry-componentClass-pcie\0" "PCIE Component Class\0"
-    "tcg-registry-componentClass-disk\0" "Disk Component Class\0" "tcg-traits\0" "Trusted Computing Group Traits\0"
-    "tcg-tr-ID\0" "TCG Trait Identifiers\0" "tcg-tr-ID-Boolean\0" "Boolean Trait\0" "tcg-tr-ID-CertificateIdentifier\0"
-    "Certificate Identifier Trait\0" "tcg-tr-ID-CommonCriteria\0" "Common Criteria Trait\0" "tcg-tr-ID-componentClass\0"
-    "Component Class Trait\0" "tcg-tr-ID-componentIdentifierV11\0", "Component Identifier V1.1 Trait\0"
-    "tcg-tr-ID-FIPSLevel\0" "FIPS Level Trait\0" "tcg-tr-ID-ISO9000Level\0" "ISO 9000 Level Trait\0"
-    "tcg-tr-ID-networkMAC\0" "Network MAC Trait\0" "tcg-tr-ID-OID\0" "Object Identifier Trait\0" "tcg-tr-ID-PEN\0"
-    "Private Enterprise Number Trait\0" "tcg-tr-ID-platformFirmwareCapabilities\0"
-    "Platform Firmware Capabilities Trait\0" "tcg-tr-ID-platformFirmwareSignatureVerification\0"
-    "Platform Firmware Signature Verification Trait\0" "tcg-tr-ID-platformFirmwareUpdateCompliance\0"
-    "Platform Firmware Update Compliance Trait\0", "tcg-tr-ID-platformHardwareCapabilities\0"
-    "Platform Hardware Capabilities Trait\0" "tcg-tr-ID-RTM\0" "Root of Trust for Measurement Trait\0"
-    "tcg-tr-ID-status\0" "Attribute Status Trait\0" "tcg-tr-ID-URI\0" "Uniform Resource Identifier Trait\0"
-    "tcg-tr-ID-UTF8String\0" "UTF8String Trait\0" "tcg-tr-ID-IA5String\0" "IA5String Trait\0"
-    "tcg-tr-ID-PEMCertString\0" "PEM-Encoded Certificate String Trait\0" "tcg-tr-ID-PublicKey\0" "Public Key Trait\0"
-    "tcg-tr-category\0" "TCG Trait Categories\0" "tcg-tr-cat-platformManufacturer\0"
-    "Platform Manufacturer Trait Category\0", "tcg-tr-cat-platformModel\0" "Platform Model Trait Category\0"
-    "tcg-tr-cat-platformVersion\0" "Platform Version Trait Category\0" "tcg-tr-cat-platformSerial\0"
-    "Platform Serial Trait Category\0" "tcg-tr-cat-platformManufacturerIdentifier\0"
-    "Platform Manufacturer Identifier Trait Category\0" "tcg-tr-cat-platformOwnership\0"
-    "Platform Ownership Trait Category\0" "tcg-tr-cat-componentClass\0" "Component Class Trait Category\0"
-    "tcg-tr-cat-componentManufacturer\0" "Component Manufacturer Trait Category\0" "tcg-tr-cat-componentModel\0"
-    "Component Model Trait Category\0", "tcg-tr-cat-componentSerial\0" "Component Serial Trait Category\0"
-    "tcg-tr-cat-componentStatus\0" "Component Status Trait Category\0" "tcg-tr-cat-componentLocation\0"
-    "Component Location Trait Category\0" "tcg-tr-cat-componentRevision\0" "Component Revision Trait Category\0"
-    "tcg-tr-cat-componentFieldReplaceable\0" "Component Field Replaceable Trait Category\0" "tcg-tr-cat-EKCertificate\0"
-    "EK Certificate Trait Category\0" "tcg-tr-cat-IAKCertificate\0" "IAK Certificate Trait Category\0"
-    "tcg-tr-cat-IDevIDCertificate\0" "IDevID Certificate Trait Category\0", "tcg-tr-cat-DICECertificate\0"
-    "DICE Certificate Trait Category\0" "tcg-tr-cat-SPDMCertificate\0" "SPDM Certificate Trait Category\0"
-    "tcg-tr-cat-PEMCertificate\0" "PEM Certificate Trait Category\0" "tcg-tr-cat-PlatformCertificate\0"
-    "Platform Certificate Trait Category\0" "tcg-tr-cat-DeltaPlatformCertificate\0"
-    "Delta Platform Certificate Trait Category\0" "tcg-tr-cat-RebasePlatformCertificate\0"
-    "Rebase Platform Certificate Trait Category\0" "tcg-tr-cat-genericCertificate\0"
-    "Generic Certificate Trait Category\0" "tcg-tr-cat-CommonCriteria\0", "Common Criteria Trait Category\0"
-    "tcg-tr-cat-componentIdentifierV11\0" "Component Identifier V1.1 Trait Category\0" "tcg-tr-cat-FIPSLevel\0"
-    "FIPS Level Trait Category\0" "tcg-tr-cat-ISO9000\0" "ISO 9000 Trait Category\0" "tcg-tr-cat-networkMAC\0"
-    "Network MAC Trait Category\0" "tcg-tr-cat-attestationProtocol\0" "Attestation Protocol Trait Category\0"
-    "tcg-tr-cat-PEN\0" "Private Enterprise Number Trait Category\0" "tcg-tr-cat-platformFirmwareCapabilities\0"
-    "Platform Firmware Capabilities Trait Category\0" "tcg-tr-cat-platformHardwareCapabilities\0",
-    "Platform Hardware Capabilities Trait Category\0" "tcg-tr-cat-platformFirmwareSignatureVerification\0"
-    "Platform Firmware Signature Verification Trait Category\0" "tcg-tr-cat-platformFirmwareUpdateCompliance\0"
-    "Platform Firmware Update Compliance Trait Category\0" "tcg-tr-cat-RTM\0"
-    "Root of Trust of Measurement Trait Category\0" "tcg-tr-cat-PublicKey\0" "Public Key Trait Category\0"
-    "tcg-tr-registry\0" "TCG Trait Registries\0" "ca-browser-forum\0" "certificate-policies\0" "extended-validation\0"
-    "ev-guidelines\0" "Extended Validation\0" "baseline-requirements\0", "domain-validated\0" "Domain Validation\0"
-    "organization-validated\0" "Organization Validation\0" "individual-validated\0" "Individual Validation\0"
-    "extended-validation-codesigning\0" "Extended Validation (Code Signing)\0" "code-signing-requirements\0"
-    "code-signing\0" "smime-baseline\0" "mailbox-validated\0" "smime-organization-validated\0" "sponsor-validated\0"
-    "smime-individual-validated\0" "cabf-TorServiceDescriptor\0" "test-certificate\0" "certificate-extensions\0"
-    "cabf-organization-identifier\0" "cabfOrganizationIdentifier\0" "id-CABFOrganizationIdentifier\0",
-    "cabf-caSigningNonce\0" "cabf-applicantSigningNonce\0" "joint-iso-ccitt.25\0" "joint-iso-ccitt.27\0"
+    "krbPrincipalReferences\0", "krbPrincNamingAttr\0" "krbAdmServers\0" "krbMaxPwdLife\0" "krbMinPwdLife\0"
+    "krbPwdMinDiffChars\0" "krbPwdMinLength\0" "krbPwdHistoryLength\0" "krbPwdMaxFailure\0"
+    "krbPwdFailureCountInterval\0" "krbPwdLockoutDuration\0" "krbPwdAttributes\0" "krbPwdMaxLife\0"
+    "krbPwdMaxRenewableLife\0" "krbPwdAllowedKeysalts\0" "krbPwdPolicyReference\0" "krbPasswordExpiration\0"
+    "krbPrincipalKey\0" "krbTicketPolicyReference\0" "krbSubTrees\0" "krbDefaultEncSaltTypes\0"
+    "krbSupportedEncSaltTypes\0" "krbPwdHistory\0" "krbLastPwdChange\0" "krbLastAdminUnlock\0" "krbMKey\0"
+    "krbPrincipalAliases\0" "krbLastSuccessfulAuth\0", "krbLastFailedAuth\0" "krbLoginFailedCount\0" "krbExtraData\0"
+    "krbObjectReferences\0" "krbPrincContainerRef\0" "krbPrincipalAuthInd\0" "krbAllowedToDelegateTo\0" "krbContainer\0"
+    "krbRealmContainer\0" "krbService\0" "krbKdcService\0" "krbPwdService\0" "krbPrincipalAux\0" "krbPrincipal\0"
+    "krbPrincRefAux\0" "krbAdmService\0" "krbPwdPolicy\0" "krbTicketPolicyAux\0" "krbTicketPolicy\0"
+    "krb5PrincipalName\0" "krb5KeyVersionNumber\0" "krb5MaxLife\0" "krb5MaxRenew\0" "krb5KDCFlags\0"
+    "krb5EncryptionType\0" "krb5ValidStart\0" "krb5ValidEnd\0" "krb5PasswordEnd\0" "krb5Key\0" "krb5PrincipalRealm\0"
+    "krb5RealmName\0" "krb5Principal\0", "krb5KDCEntry\0" "krb5Realm\0" "ldapPublicKey\0" "sudoUser\0" "sudoHost\0"
+    "sudoCommand\0" "sudoRunAs\0" "sudoOption\0" "sudoRunAsUser\0" "sudoRunAsGroup\0" "sudoNotBefore\0" "sudoNotAfter\0"
+    "sudoOrder\0" "sudoRole\0" "sambaLMPassword\0" "sambaNTPassword\0" "sambaAcctFlags\0" "sambaPwdLastSet\0"
+    "sambaPwdCanChange\0" "sambaPwdMustChange\0" "sambaLogonTime\0" "sambaLogoffTime\0" "sambaKickoffTime\0"
+    "sambaBadPasswordCount\0" "sambaBadPasswordTime\0" "sambaLogonHours\0" "sambaHomeDrive\0" "sambaLogonScript\0"
+    "sambaProfilePath\0" "sambaUserWorkstations\0" "sambaHomePath\0" "sambaDomainName\0" "sambaMungedDial\0"
+    "sambaPasswordHistory\0", "sambaSID\0" "sambaPrimaryGroupSID\0" "sambaSIDList\0" "sambaGroupType\0"
+    "sambaNextUserRid\0" "sambaNextGroupRid\0" "sambaNextRid\0" "sambaAlgorithmicRidBase\0" "sambaShareName\0"
+    "sambaOptionName\0" "sambaBoolOption\0" "sambaIntegerOption\0" "sambaStringOption\0" "sambaStringListOption\0"
+    "sambaTrustFlags\0" "sambaMinPwdLength\0" "sambaPwdHistoryLength\0" "sambaLogonToChgPwd\0" "sambaMaxPwdAge\0"
+    "sambaMinPwdAge\0" "sambaLockoutDuration\0" "sambaLockoutObservationWindow\0" "sambaLockoutThreshold\0"
+    "sambaForceLogoff\0" "sambaRefuseMachinePwdChange\0" "sambaClearTextPassword\0", "sambaPreviousClearTextPassword\0"
+    "sambaTrustType\0" "sambaTrustAttributes\0" "sambaTrustDirection\0" "sambaTrustPartner\0" "sambaFlatName\0"
+    "sambaTrustAuthOutgoing\0" "sambaTrustAuthIncoming\0" "sambaSecurityIdentifier\0" "sambaTrustForestTrustInfo\0"
+    "sambaTrustPosixOffset\0" "sambaSupportedEncryptionTypes\0" "sambaSamAccount\0" "sambaGroupMapping\0"
+    "sambaTrustPassword\0" "sambaTrustedDomainPassword\0" "sambaDomain\0" "sambaUnixIdPool\0" "sambaIdmapEntry\0"
+    "sambaSidEntry\0" "sambaConfig\0" "sambaShare\0" "sambaConfigOption\0" "sambaTrustedDomain\0" "automountMapName\0"
+    "automountKey\0", "automountInformation\0" "automountMap\0" "automount\0" "id-etsi-qcs-QcCompliance\0"
+    "id-etsi-qcs-QcLimitValue\0" "id-etsi-qcs-QcRetentionPeriod\0" "id-etsi-qcs-QcSSCD\0" "id-etsi-qcs-QcPDS\0"
+    "id-etsi-qcs-QcType\0" "id-etsi-qct-esign\0" "id-etsi-qct-eseal\0" "id-etsi-qct-web\0"
+    "id-etsi-qcs-QcCClegislation\0" "id-etsi-qcs-semanticsId-Natural\0" "id-etsi-qcs-SemanticsId-Legal\0"
+    "id-etsi-qcs-semanticsId-eIDASNatural\0" "id-etsi-qcs-semanticsId-eIDASLegal\0" "id-etsi-ext-valassured-ST-certs\0"
+    "QcCompliance\0" "QcLimitValue\0" "QcRetentionPeriod\0" "QcSSCD\0" "QcPDS\0" "QcType\0" "QcCClegislation\0",
+    "ncpplus\0" "evcp\0" "dvcp\0" "ovcp\0" "qcp-natural\0" "qcp-legal\0" "qcp-natural-qscd\0" "qcp-legal-qscd\0"
+    "qcp-web\0" "QCP-n\0" "QCP-l\0" "QCP-n-qscd\0" "QCP-l-qscd\0" "QEVCP-w\0" "QNCP-w\0" "id-etsi-psd2-qcStatement\0"
+    "id-psd2-role-psp-as\0" "id-psd2-role-psp-pi\0" "id-psd2-role-psp-ai\0" "id-psd2-role-psp-ic\0" "qcp-web-psd2\0"
+    "etsiQcsProfile\0" "etsiQcs\0" "etsiQcsCompliance\0" "etsiQcsLimitValue\0" "etsiQcsRetentionPeriod\0"
+    "etsiQcsQcSSCD\0" "id-pe-acmeIdentifier\0" "acmeIdentifier\0" "id-CABFOrganizationIdentifier\0" "MD2-RSA\0"
+    "SHA256WithRSAPSS\0" "SHA384WithRSAPSS\0" "SHA512WithRSAPSS\0" "DSAWithSHA256\0" "ECDSAWithSHA1\0",
+    "ECDSAWithSHA256\0" "ECDSAWithSHA384\0" "ECDSAWithSHA512\0" "PureEd25519\0" "MicrosoftServerGatedCrypto\0"
+    "NetscapeServerGatedCrypto\0" "MicrosoftCommercialCodeSigning\0" "MicrosoftKernelCodeSigning\0" "ExtKeyUsageAny\0"
+    "ExtKeyUsageServerAuth\0" "ExtKeyUsageClientAuth\0" "ExtKeyUsageCodeSigning\0" "ExtKeyUsageEmailProtection\0"
+    "ExtKeyUsageIPSECEndSystem\0" "ExtKeyUsageIPSECTunnel\0" "ExtKeyUsageIPSECUser\0" "ExtKeyUsageTimeStamping\0"
+    "ExtKeyUsageOCSPSigning\0" "ExtKeyUsageMicrosoftServerGatedCrypto\0" "ExtKeyUsageNetscapeServerGatedCrypto\0",
+    "ExtKeyUsageMicrosoftCommercialCodeSigning\0" "ExtKeyUsageMicrosoftKernelCodeSigning\0" "nistk163\0" "nistp192\0"
+    "nistp224\0" "nistk233\0" "nistb233\0" "nistk283\0" "nistk409\0" "nistb409\0" "nistt571\0" "Ed25519Legacy\0"
+    "Curve25519Legacy\0" "cv25519\0" "NIST192p\0" "NIST224p\0" "NIST256p\0" "NIST384p\0" "NIST521p\0" "sm2p256v1\0"
+    "wapip192v1\0" "FRP256v1\0" "ecPublicKey\0" "des_mac\0" "sha512_224\0" "sha512_256\0" "shake128_len\0"
+    "shake256_len\0" "md2_rsa\0" "md5_rsa\0" "sha1_rsa\0" "sha224_rsa\0" "sha256_rsa\0" "sha384_rsa\0" "sha512_rsa\0"
+    "rsassa_pss\0" "sha1_dsa\0" "sha224_dsa\0" "sha256_dsa\0" "sha1_ecdsa\0" "sha224_ecdsa\0" "sha256_ecdsa\0"
+    "sha384_ecdsa\0", "sha512_ecdsa\0" "sha3_224_ecdsa\0" "sha3_256_ecdsa\0" "sha3_384_ecdsa\0" "sha3_512_ecdsa\0"
+    "rsassa_pkcs1v15\0" "p_specified\0" "tripledes_3key\0" "rc2\0" "rc5\0" "aes128_ecb\0" "aes128_cbc\0" "aes128_ofb\0"
+    "aes128_cfb\0" "aes128_wrap\0" "aes128_gcm\0" "aes128_ccm\0" "aes128_wrap_pad\0" "aes192_ecb\0" "aes192_cbc\0"
+    "aes192_ofb\0" "aes192_cfb\0" "aes192_wrap\0" "aes192_gcm\0" "aes192_ccm\0" "aes192_wrap_pad\0" "aes256_ecb\0"
+    "aes256_cbc\0" "aes256_ofb\0" "aes256_cfb\0" "aes256_wrap\0" "aes256_gcm\0" "aes256_ccm\0" "aes256_wrap_pad\0"
+    "pbes1_md2_des\0" "pbes1_md5_des\0" "pbes1_md2_rc2\0" "pbes1_md5_rc2\0" "pbes1_sha1_des\0" "pbes1_sha1_rc2\0",
+    "pkcs12_sha1_rc4_128\0" "pkcs12_sha1_rc4_40\0" "pkcs12_sha1_tripledes_3key\0" "pkcs12_sha1_tripledes_2key\0"
+    "pkcs12_sha1_rc2_128\0" "pkcs12_sha1_rc2_40\0" "rsaes_pkcs1v15\0" "rsaes_oaep\0" "prime_field\0"
+    "characteristic_two_field\0" "c2pnb176w1\0" "common_name\0" "serial_number\0" "country_name\0" "locality_name\0"
+    "state_or_province_name\0" "street_address\0" "organization_name\0" "organizational_unit_name\0"
+    "business_category\0" "postal_code\0" "telephone_number\0" "given_name\0" "generation_qualifier\0"
+    "unique_identifier\0" "dn_qualifier\0" "organization_identifier\0" "tpm_manufacturer\0" "tpm_model\0",
+    "tpm_version\0" "platform_manufacturer\0" "platform_model\0" "platform_version\0" "email_address\0"
+    "incorporation_locality\0" "incorporation_state_or_province\0" "incorporation_country\0" "user_id\0"
+    "domain_component\0" "name_distinguisher\0" "certification_practice_statement\0" "user_notice\0" "any_policy\0"
+    "any_extended_key_usage\0" "server_auth\0" "client_auth\0" "code_signing\0" "email_protection\0"
+    "ipsec_end_system\0" "ipsec_tunnel\0" "ipsec_user\0" "time_stamping\0" "ocsp_signing\0" "eap_over_ppp\0"
+    "eap_over_lan\0" "scvp_server\0" "scvp_client\0" "ipsec_ike\0" "capwap_ac\0" "capwap_wtp\0" "sip_domain\0",
+    "secure_shell_client\0" "secure_shell_server\0" "send_router\0" "send_proxied_router\0" "send_owner\0"
+    "send_proxied_owner\0" "cmc_ca\0" "cmc_ra\0" "cmc_archive\0" "bgpspec_router\0" "ike_intermediate\0"
+    "microsoft_trust_list_signing\0" "microsoft_time_stamp_signing\0" "microsoft_server_gated\0"
+    "microsoft_serialized\0" "microsoft_efs\0" "microsoft_efs_recovery\0" "microsoft_whql\0" "microsoft_nt5\0"
+    "microsoft_oem_whql\0" "microsoft_embedded_nt\0" "microsoft_root_list_signer\0"
+    "microsoft_qualified_subordination\0" "microsoft_key_recovery\0" "microsoft_document_signing\0"
+    "microsoft_lifetime_signing\0", "microsoft_mobile_device_software\0" "microsoft_smart_card_logon\0"
+    "apple_x509_basic\0" "apple_ssl\0" "apple_local_cert_gen\0" "apple_csr_gen\0" "apple_revocation_crl\0"
+    "apple_revocation_ocsp\0" "apple_smime\0" "apple_eap\0" "apple_software_update_signing\0" "apple_ipsec\0"
+    "apple_ichat\0" "apple_resource_signing\0" "apple_pkinit_client\0" "apple_pkinit_server\0" "apple_code_signing\0"
+    "apple_package_signing\0" "apple_id_validation\0" "apple_time_stamping\0" "apple_revocation\0"
+    "apple_passbook_signing\0" "apple_mobile_store\0" "apple_escrow_service\0" "apple_profile_signer\0",
+    "apple_qa_profile_signer\0" "apple_test_mobile_store\0" "apple_otapki_signer\0" "apple_test_otapki_signer\0"
+    "apple_server_authentication\0" "apple_pcs_escrow_service\0" "piv_card_authentication\0" "piv_content_signing\0"
+    "pkinit_kpclientauth\0" "pkinit_kpkdc\0" "pdf_signing\0" "fpki_pivi_content_signing\0" "ca_issuers\0"
+    "ca_repository\0" "supported_algorithms\0" "tpm_specification\0" "tcg_platform_specification\0"
+    "tpm_security_assertions\0" "pda_date_of_birth\0" "pda_place_of_birth\0" "pda_gender\0"
+    "pda_country_of_citizenship\0" "pda_country_of_residence\0" "entrust_user_role\0", "subject_directory_attributes\0"
+    "key_identifier\0" "key_usage\0" "private_key_usage_period\0" "subject_alt_name\0" "issuer_alt_name\0"
+    "basic_constraints\0" "name_constraints\0" "crl_distribution_points\0" "certificate_policies\0" "policy_mappings\0"
+    "authority_key_identifier\0" "policy_constraints\0" "extended_key_usage\0" "freshest_crl\0" "inhibit_any_policy\0"
+    "authority_information_access\0" "subject_information_access\0" "tls_feature\0" "ocsp_no_check\0"
+    "entrust_version_extension\0" "netscape_certificate_type\0" "signed_certificate_timestamp_list\0"
+    "microsoft_enroll_certtype\0", "adobe_archive_rev_info\0" "adobe_timestamp\0" "adobe_ppklite_credential\0"
+    "crl_number\0" "delta_crl_indicator\0" "issuing_distribution_point\0" "crl_reason\0" "hold_instruction_code\0"
+    "invalidity_date\0" "certificate_issuer\0" "service_locator\0" "basic_ocsp_response\0" "acceptable_responses\0"
+    "preferred_signature_algorithms\0" "crl\0" "archive_cutoff\0" "extended_revoke\0" "content_type\0"
+    "message_digest\0" "signing_time\0" "counter_signature\0" "smime_capabilities\0" "encrypt_key_pref\0"
+    "signature_time_stamp_token\0" "cms_algorithm_protection\0" "microsoft_nested_signature\0",
+    "microsoft_time_stamp_token\0" "adobe_revocation_info_archival\0" "signing_certificate\0" "signing_certificate_v2\0"
+    "signed_data\0" "enveloped_data\0" "signed_and_enveloped_data\0" "digested_data\0" "encrypted_data\0"
+    "authenticated_data\0" "compressed_data\0" "authenticated_enveloped_data\0" "tst_info\0" "timestamped_data\0"
+    "authentication_info\0" "access_identity\0" "charging_identity\0" "timing_metrics\0" "timing_policy\0"
+    "ocsp_response\0" "scvp\0" "challenge_password\0" "extended_certificate_attributes\0" "extension_request\0"
+    "microsoft_enrollment_csp_provider\0" "microsoft_os_version\0", "microsoft_request_client_info\0" "friendly_name\0"
+    "local_key_id\0" "trusted_key_usage\0" "key_bag\0" "pkcs8_shrouded_key_bag\0" "cert_bag\0" "crl_bag\0"
+    "secret_bag\0" "safe_contents\0" "sdsi\0" "id-ecSigType\0" "id-fieldType\0" "gnBasis\0" "id-publicKeyType\0"
+    "c-TwoCurve\0" "primeCurve\0" "id-logo-background\0" "id-logo-loyalty\0" "id-logo-certImage\0" "id-aca-wlanSSID\0"
+    "id-aa-fwPkgMessageDigest\0" "id-at-clearance\0" "id-pe-clearanceConstraints\0"
+    "id-pe-authorityClearanceConstraints\0" "id-deviceOwner\0" "id-clearanceSponsor\0" "id-tamp\0"
+    "id-pe-wrappedApexContinKey\0" "is18033-2\0" "nistAlgorithm\0", "id-ct-anyContentType\0"
+    "id-pe-cmsContentConstraints\0" "id-alg-MD5-XOR-EXPERIMENT\0" "id-cmc-raIdentityWitness\0" "id-cmc-responseBody\0"
+    "id-cmc-changeSubjectName\0" "e-legnamnden\0" "id-eleg-ce\0" "id-ce-authContext\0" "oiw\0" "encryptionAlgorithm\0"
+    "id-pe-JWTClaimConstraints\0" "id-ct-epub\0" "id-ct-htmlWithCRLF\0" "id-ct-postscript\0" "id-ct-utf8TextWithCRLF\0"
+    "dhSinglePass-stdDH-hkdf-sha256-scheme\0" "dhSinglePass-stdDH-hkdf-sha384-scheme\0"
+    "dhSinglePass-stdDH-hkdf-sha512-scheme\0" "id-attr-validation-parameters\0" "id-mmhs-CDT\0" "id-pe-mudsigner\0"
+    "id-ce-hashOfRootKey\0" "id_pkix\0", "id_pe\0" "id_qt\0" "id_kp\0" "id_ad\0" "id_qt_cps\0" "id_qt_unotice\0"
+    "id_ad_ocsp\0" "id_ad_caIssuers\0" "id_at\0" "id_at_name\0" "id_at_surname\0" "id_at_givenName\0" "id_at_initials\0"
+    "id_at_generationQualifier\0" "id_at_commonName\0" "id_at_localityName\0" "id_at_stateOrProvinceName\0"
+    "id_at_organizationName\0" "id_at_organizationalUnitName\0" "id_at_title\0" "id_at_dnQualifier\0"
+    "id_at_countryName\0" "id_dsa_with_sha1\0" "id_dsa\0" "id_ce_invalidityDate\0" "id_ce_cRLReasons\0"
+    "id_ce_cRLNumber\0" "id_kp_serverAuth\0" "id_kp_clientAuth\0" "id_kp_codeSigning\0" "id_kp_emailProtection\0"
+    "id_kp_ipsecEndSystem\0", "id_kp_ipsecTunnel\0" "id_kp_ipsecUser\0" "id_kp_timeStamping\0"
+    "id_pe_authorityInfoAccess\0" "id_ce_extKeyUsage\0" "id_ce_policyConstraints\0" "id_ce_basicConstraints\0"
+    "id_ce_deltaCRLIndicator\0" "id_ce_cRLDistributionPoints\0" "id_ce_issuingDistributionPoint\0"
+    "id_ce_nameConstraints\0" "id_ce_certificatePolicies\0" "id_ce_policyMappings\0" "id_ce_keyUsage\0" "id_ce\0"
+    "id_ce_authorityKeyIdentifier\0" "id_ce_subjectKeyIdentifier\0" "id_ce_certificateIssuer\0" "id_ce_subjectAltName\0"
+    "id_ce_issuerAltName\0" "id_RSAES_OAEP\0" "id_sha1\0" "id_kp_OCSPSigning\0" "id_pkix_ocsp\0", "id_pkix_ocsp_basic\0"
+    "id_pkix_ocsp_nonce\0" "id_pkix_ocsp_nocheck\0" "id_aa_signingCertificate\0" "id_at_pseudonym\0"
+    "id_at_serialNumber\0" "id_ct_TSTInfo\0" "ecdsa_with_SHA1\0" "id_ecPublicKey\0" "id_ad_timeStamping\0"
+    "id_ad_caRepository\0" "id_ce_freshestCRL\0" "id_ce_inhibitAnyPolicy\0" "id_pe_subjectInfoAccess\0" "id_sha256\0"
+    "id_sha384\0" "id_sha512\0" "id_aes128_CBC\0" "id_aes192_CBC\0" "id_aes256_CBC\0" "id_aes128_wrap\0"
+    "id_aes192_wrap\0" "id_aes256_wrap\0" "id_pe_ipAddrBlocks\0" "id_pe_autonomousSysIds\0" "id_signedData\0"
+    "id_contentType\0" "id_data\0" "id_messageDigest\0" "id_ct_contentInfo\0", "id_envelopedData\0" "id_digestedData\0"
+    "id_signingTime\0" "id_encryptedData\0" "id_sha224\0" "id_RSASSA_PSS\0" "id_aa_signingCertificateV2\0"
+    "id_aes128_GCM\0" "id_aes192_GCM\0" "id_aes256_GCM\0" "id_ecDH\0" "id_dsa_with_sha224\0" "id_dsa_with_sha256\0"
+    "ecdsa_with_SHA224\0" "ecdsa_with_SHA256\0" "ecdsa_with_SHA384\0" "ecdsa_with_SHA512\0" "id_aes128_wrap_pad\0"
+    "id_aes192_wrap_pad\0" "id_aes256_wrap_pad\0" "id_at_clearance\0" "id_kp_secureShellClient\0"
+    "id_kp_secureShellServer\0" "id_certBag\0" "id_pe_tlsfeature\0" "id_at_userCertificate\0" "id_sha512_224\0"
+    "id_sha512_256\0" "id_PBES2\0" "id_PBMAC1\0" "id_PBKDF2\0", "id_pe_TNAuthList\0" "id_X25519\0" "id_X448\0"
+    "id_Ed25519\0" "id_Ed448\0" "id_attr_validation_parameters\0" "iso.0\0" "iso.1\0" "iso.2\0" "iso.3\0" "ccitt.0\0"
+    "ccitt.1\0" "ccitt.2\0" "ccitt.3\0" "ccitt.4\0" "ccitt.5\0" "ccitt.9\0" "joint-iso-ccitt.1\0" "joint-iso-ccitt.2\0"
+    "joint-iso-ccitt.3\0" "joint-iso-ccitt.4\0" "joint-iso-ccitt.5\0" "joint-iso-ccitt.6\0" "joint-iso-ccitt.9\0"
+    "joint-iso-ccitt.16\0" "joint-iso-ccitt.17\0" "joint-iso-ccitt.23\0" "joint-iso-ccitt.25\0" "joint-iso-ccitt.27\0"
     "joint-iso-ccitt.40\0" "joint-iso-ccitt.41\0" "joint-iso-ccitt.48\0" "joint-iso-ccitt.49\0" "joint-iso-ccitt.51\0"
-    "\0"
+    "linux\0" "prtAlertGroup\0" "ncp\0" "lcp\0", "joint-iso-ccitt.42\0" "hpux9\0" "sunos4\0" "solaris\0" "osf\0"
+    "ultrix\0" "hpux10\0" "freebsd\0" "irix\0" "bsdi\0" "openbsd\0" "win32\0" "hpux11\0" "aix\0" "macosx\0"
+    "dragonfly\0" "\0"
 };
 
 /* An entry: where its name and its octets are, at 512 times the index of their literal, and their lengths. */
@@ -2969,1294 +2977,1277 @@ typedef struct const_oid_common_entry {
 } const_oid_common_entry;
 
 CONST_OID_TABLE const const_oid_common_entry const_oid_common_entries[CONST_OID_COMMON_NAMES_COUNT + 1] = {
-    {0, 0, 11, 1}, {12, 0, 7, 1}, {20, 1, 7, 1}, {28, 2, 7, 1}, {36, 3, 18, 7}, {55, 10, 7, 1}, {63, 11, 16, 8},
-    {80, 11, 16, 8}, {97, 19, 16, 8}, {114, 19, 16, 8}, {131, 27, 16, 8}, {148, 27, 16, 8}, {165, 35, 16, 8},
-    {182, 35, 16, 8}, {199, 43, 16, 8}, {216, 43, 16, 8}, {233, 51, 16, 8}, {250, 51, 16, 8}, {267, 59, 17, 8},
-    {285, 59, 17, 8}, {303, 67, 16, 8}, {320, 67, 16, 8}, {337, 75, 16, 8}, {354, 75, 16, 8}, {371, 83, 16, 8},
-    {388, 83, 16, 8}, {405, 91, 16, 8}, {422, 91, 16, 8}, {439, 99, 16, 8}, {456, 99, 16, 8}, {473, 107, 16, 8},
-    {490, 107, 16, 8}, {512, 115, 17, 8}, {530, 115, 17, 8}, {548, 123, 16, 8}, {565, 123, 16, 8}, {582, 131, 16, 8},
-    {599, 131, 16, 8}, {616, 139, 16, 8}, {633, 139, 16, 8}, {650, 147, 16, 8}, {667, 147, 16, 8}, {684, 155, 16, 8},
-    {701, 155, 16, 8}, {718, 163, 16, 8}, {735, 163, 16, 8}, {752, 171, 17, 8}, {770, 171, 17, 8}, {788, 179, 29, 1},
-    {818, 179, 7, 1}, {826, 180, 4, 2}, {831, 182, 29, 4}, {861, 186, 14, 5}, {876, 191, 18, 6}, {895, 197, 28, 6},
-    {924, 203, 33, 6}, {958, 209, 28, 6}, {987, 215, 18, 6}, {1006, 221, 14, 4}, {1024, 225, 7, 5}, {1032, 230, 24, 6},
-    {1057, 230, 12, 6}, {1070, 230, 17, 6}, {1088, 236, 24, 6}, {1113, 236, 12, 6}, {1126, 236, 17, 6},
-    {1144, 242, 29, 6}, {1174, 242, 17, 6}, {1192, 242, 22, 6}, {1215, 248, 18, 6}, {1234, 248, 6, 6},
-    {1241, 248, 13, 6}, {1255, 254, 17, 6}, {1273, 254, 5, 6}, {1279, 260, 18, 6}, {1298, 260, 6, 6},
-    {1305, 266, 17, 7}, {1323, 273, 17, 7}, {1341, 280, 15, 7}, {1357, 287, 27, 6}, {1385, 287, 15, 6},
-    {1401, 293, 7, 6}, {1409, 299, 4, 6}, {1414, 305, 4, 6}, {1419, 311, 4, 6}, {1424, 317, 5, 5}, {1430, 322, 16, 6},
-    {1447, 328, 22, 7}, {1470, 335, 24, 7}, {1495, 342, 21, 7}, {1536, 349, 21, 7}, {1558, 356, 15, 7},
-    {1574, 363, 19, 7}, {1594, 370, 19, 7}, {1614, 377, 19, 7}, {1634, 384, 19, 7}, {1654, 391, 24, 6},
-    {1679, 397, 12, 7}, {1692, 404, 11, 7}, {1704, 404, 5, 7}, {1710, 411, 9, 7}, {1720, 411, 5, 7}, {1726, 418, 16, 7},
-    {1743, 418, 10, 7}, {1754, 425, 14, 7}, {1769, 425, 10, 7}, {1780, 432, 7, 7}, {1788, 432, 7, 7}, {1796, 439, 6, 7},
-    {1803, 446, 31, 7}, {1835, 453, 29, 7}, {1865, 460, 36, 7}, {1902, 467, 34, 7}, {1937, 474, 31, 7},
-    {1969, 481, 7, 1}, {1977, 482, 4, 1}, {1982, 482, 7, 1}, {1990, 483, 3, 3}, {1994, 486, 3, 7}, {1998, 493, 5, 8},
-    {2004, 512, 18, 9}, {2023, 521, 7, 10}, {2031, 521, 7, 10}, {2048, 531, 19, 10}, {2068, 541, 18, 10},
-    {2087, 541, 16, 10}, {2104, 541, 16, 10}, {2121, 551, 20, 10}, {2142, 561, 3, 10}, {2146, 571, 20, 9},
-    {2167, 580, 15, 10}, {2183, 590, 25, 10}, {2209, 600, 16, 9}, {2226, 609, 14, 10}, {2241, 619, 14, 10},
-    {2256, 629, 11, 9}, {2268, 638, 5, 1}, {2274, 639, 7, 6}, {2282, 645, 17, 7}, {2300, 652, 22, 8},
-    {2323, 660, 19, 9}, {2343, 669, 11, 7}, {2355, 676, 17, 8}, {2373, 684, 21, 9}, {2395, 693, 27, 9},
-    {2423, 702, 15, 9}, {2439, 711, 11, 9}, {2451, 720, 24, 9}, {2476, 729, 19, 9}, {2496, 738, 19, 10},
-    {2516, 748, 21, 11}, {2560, 759, 25, 11}, {2586, 770, 32, 11}, {2619, 781, 26, 11}, {2646, 792, 14, 8},
-    {2661, 800, 32, 9}, {2694, 809, 25, 9}, {2720, 818, 25, 9}, {2746, 827, 23, 9}, {2770, 836, 25, 9},
-    {2796, 845, 20, 9}, {2817, 854, 20, 9}, {2838, 863, 19, 8}, {2858, 871, 23, 9}, {2882, 880, 16, 9},
-    {2899, 889, 14, 9}, {2914, 898, 14, 9}, {2929, 907, 22, 9}, {2952, 916, 20, 9}, {2973, 925, 16, 9},
-    {2990, 934, 16, 10}, {3007, 944, 14, 11}, {3022, 955, 20, 11}, {3043, 966, 13, 11}, {3072, 977, 15, 11},
-    {3088, 988, 19, 9}, {3108, 997, 19, 10}, {3128, 1007, 21, 11}, {3150, 1024, 14, 11}, {3165, 1035, 17, 11},
-    {3183, 1046, 23, 11}, {3207, 1057, 18, 11}, {3226, 1068, 17, 11}, {3244, 1079, 21, 8}, {3266, 1087, 12, 9},
-    {3279, 1096, 12, 10}, {3292, 1106, 15, 11}, {3308, 1117, 19, 11}, {3328, 1128, 12, 11}, {3341, 1139, 23, 11},
-    {3365, 1150, 16, 11}, {3382, 1161, 20, 11}, {3403, 1172, 13, 11}, {3417, 1183, 15, 11}, {3433, 1194, 14, 11},
-    {3448, 1205, 14, 11}, {3463, 1216, 22, 11}, {3486, 1227, 20, 11}, {3507, 1238, 19, 9}, {3527, 1247, 19, 10},
-    {3547, 1257, 21, 11}, {3584, 1268, 14, 11}, {3599, 1279, 23, 11}, {3623, 1290, 18, 11}, {3642, 1301, 17, 11},
-    {3660, 1312, 14, 8}, {3675, 1320, 4, 5}, {3680, 1320, 4, 5}, {3685, 1325, 9, 6}, {3695, 1331, 9, 5},
-    {3705, 1336, 10, 7}, {3716, 1343, 5, 1}, {3722, 1344, 11, 1}, {3734, 1344, 15, 1}, {3750, 1344, 5, 1},
-    {3756, 1345, 6, 3}, {3763, 1345, 18, 3}, {3782, 1348, 5, 5}, {3788, 1353, 9, 6}, {3798, 1359, 7, 8},
-    {3806, 1359, 7, 8}, {3814, 1367, 7, 8}, {3822, 1367, 7, 8}, {3830, 1367, 3, 8}, {3834, 1375, 7, 8},
-    {3842, 1375, 7, 8}, {3850, 1375, 10, 8}, {3861, 1383, 7, 8}, {3869, 1383, 7, 8}, {3877, 1383, 10, 8},
-    {3888, 1391, 8, 8}, {3897, 1391, 8, 8}, {3906, 1399, 8, 8}, {3915, 1399, 8, 8}, {3924, 1407, 7, 8},
-    {3932, 1407, 7, 8}, {3940, 1415, 7, 8}, {3948, 1415, 7, 8}, {3956, 1423, 7, 8}, {3964, 1423, 7, 8},
-    {3972, 1431, 7, 8}, {3980, 1431, 7, 8}, {3988, 1439, 3, 8}, {3992, 1439, 3, 8}, {3996, 1439, 9, 8},
-    {4006, 1447, 10, 9}, {4017, 1456, 3, 8}, {4021, 1456, 3, 8}, {4025, 1464, 11, 10}, {4037, 1474, 7, 8},
-    {4045, 1474, 12, 8}, {4058, 1482, 7, 8}, {4066, 1482, 20, 8}, {4096, 1490, 8, 10}, {4105, 1500, 16, 11},
-    {4122, 1500, 16, 11}, {4139, 1500, 11, 11}, {4151, 1500, 18, 11}, {4170, 1511, 16, 11}, {4187, 1511, 16, 11},
-    {4204, 1511, 11, 11}, {4216, 1511, 18, 11}, {4235, 1522, 16, 11}, {4252, 1522, 16, 11}, {4269, 1522, 11, 11},
-    {4281, 1522, 18, 11}, {4300, 1536, 19, 11}, {4320, 1547, 19, 11}, {4340, 1558, 19, 11}, {4360, 1569, 4, 6},
-    {4365, 1569, 4, 6}, {4370, 1575, 8, 8}, {4379, 1575, 8, 8}, {4388, 1583, 8, 8}, {4397, 1583, 8, 8},
-    {4406, 1583, 10, 8}, {4417, 1591, 8, 8}, {4426, 1591, 8, 8}, {4435, 1599, 8, 8}, {4444, 1599, 8, 8},
-    {4453, 1607, 12, 9}, {4466, 1607, 12, 9}, {4479, 1616, 12, 9}, {4492, 1616, 12, 9}, {4505, 1616, 7, 9},
-    {4513, 1625, 12, 9}, {4526, 1625, 12, 9}, {4539, 1634, 12, 9}, {4552, 1634, 12, 9}, {4565, 1643, 12, 9},
-    {4578, 1643, 12, 9}, {4591, 1652, 12, 9}, {4608, 1652, 12, 9}, {4621, 1661, 12, 9}, {4634, 1661, 12, 9},
-    {4647, 1661, 7, 9}, {4655, 1670, 12, 9}, {4668, 1670, 12, 9}, {4681, 1679, 12, 9}, {4694, 1679, 12, 9},
-    {4707, 1688, 12, 9}, {4720, 1688, 12, 9}, {4733, 1697, 12, 9}, {4746, 1697, 12, 9}, {4759, 1706, 12, 9},
-    {4772, 1706, 12, 9}, {4785, 1706, 7, 9}, {4793, 1715, 12, 9}, {4806, 1715, 12, 9}, {4819, 1724, 12, 9},
-    {4832, 1724, 12, 9}, {4845, 1733, 12, 9}, {4858, 1733, 12, 9}, {4871, 1742, 12, 9}, {4884, 1742, 12, 9},
-    {4897, 1751, 12, 9}, {4910, 1751, 12, 9}, {4923, 1760, 12, 9}, {4936, 1760, 12, 9}, {4949, 1769, 12, 9},
-    {4962, 1769, 12, 9}, {4975, 1778, 12, 9}, {4988, 1778, 12, 9}, {5001, 1787, 12, 9}, {5014, 1787, 12, 9},
-    {5027, 1796, 9, 5}, {5037, 1801, 35, 6}, {5073, 1801, 38, 6}, {5120, 1801, 11, 6}, {5132, 1807, 33, 6},
-    {5166, 1807, 36, 6}, {5203, 1813, 9, 6}, {5213, 1813, 15, 6}, {5229, 1813, 11, 6}, {5241, 1819, 19, 6},
-    {5261, 1819, 18, 6}, {5280, 1825, 31, 7}, {5312, 1832, 36, 7}, {5349, 1839, 8, 6}, {5358, 1839, 17, 6},
-    {5376, 1845, 6, 6}, {5383, 1845, 15, 6}, {5399, 1851, 17, 7}, {5417, 1858, 20, 7}, {5438, 1865, 17, 7},
-    {5456, 1872, 20, 7}, {5477, 1879, 6, 6}, {5484, 1879, 13, 6}, {5498, 1885, 8, 6}, {5507, 1885, 17, 6},
-    {5525, 1891, 16, 6}, {5542, 1891, 19, 6}, {5562, 1897, 28, 7}, {5591, 1904, 33, 7}, {5632, 1911, 28, 7},
-    {5661, 1918, 36, 7}, {5698, 1925, 36, 7}, {5735, 1932, 36, 7}, {5772, 1939, 36, 7}, {5809, 1946, 44, 7},
-    {5854, 1953, 44, 7}, {5899, 1960, 40, 7}, {5940, 1967, 28, 7}, {5969, 1974, 36, 7}, {6006, 1981, 36, 7},
-    {6043, 1988, 36, 7}, {6080, 1995, 36, 7}, {6144, 2002, 39, 7}, {6184, 2009, 39, 7}, {6224, 2016, 39, 7},
-    {6264, 2023, 30, 7}, {6295, 2030, 38, 7}, {6334, 2037, 38, 7}, {6373, 2048, 38, 7}, {6412, 2055, 41, 7},
-    {6454, 2062, 41, 7}, {6496, 2069, 19, 6}, {6516, 2069, 20, 6}, {6537, 2075, 17, 6}, {6555, 2075, 18, 6},
-    {6574, 2081, 9, 5}, {6584, 2086, 36, 8}, {6656, 2086, 46, 8}, {6703, 2094, 38, 8}, {6742, 2094, 48, 8},
-    {6791, 2102, 8, 8}, {6800, 2102, 23, 8}, {6824, 2110, 10, 8}, {6835, 2110, 25, 8}, {6861, 2118, 18, 8},
-    {6880, 2118, 32, 8}, {6913, 2126, 29, 8}, {6943, 2126, 40, 8}, {6984, 2134, 3, 8}, {6988, 2142, 7, 5},
-    {6996, 2147, 18, 6}, {7015, 2153, 12, 7}, {7028, 2160, 12, 8}, {7041, 2160, 38, 8}, {7080, 2168, 12, 8},
-    {7093, 2168, 38, 8}, {7132, 2176, 14, 7}, {7147, 2183, 13, 8}, {7168, 2183, 35, 8}, {7204, 2183, 12, 8},
-    {7217, 2191, 13, 8}, {7231, 2191, 35, 8}, {7267, 2191, 12, 8}, {7280, 2199, 22, 7}, {7303, 2206, 40, 8},
-    {7344, 2206, 50, 8}, {7395, 2206, 15, 8}, {7411, 2214, 40, 8}, {7452, 2214, 50, 8}, {7503, 2214, 15, 8},
-    {7519, 2222, 11, 7}, {7531, 2229, 31, 8}, {7563, 2229, 28, 8}, {7592, 2237, 31, 8}, {7624, 2237, 28, 8},
-    {7653, 2245, 14, 7}, {7680, 2252, 35, 8}, {7716, 2260, 15, 9}, {7732, 2269, 20, 9}, {7753, 2278, 40, 8},
-    {7794, 2286, 20, 9}, {7815, 2295, 25, 9}, {7841, 2304, 17, 7}, {7859, 2311, 36, 8}, {7896, 2319, 36, 8},
-    {7933, 2327, 12, 7}, {7946, 2334, 33, 8}, {7980, 2342, 12, 9}, {7993, 2351, 38, 8}, {8032, 2359, 17, 9},
-    {8050, 2368, 17, 6}, {8068, 2374, 22, 7}, {8091, 2381, 36, 8}, {8128, 2389, 36, 9}, {8192, 2389, 38, 9},
-    {8231, 2398, 36, 9}, {8268, 2398, 38, 9}, {8307, 2407, 36, 9}, {8344, 2407, 38, 9}, {8383, 2416, 36, 9},
-    {8420, 2416, 38, 9}, {8459, 2425, 36, 8}, {8496, 2433, 39, 9}, {8536, 2433, 49, 9}, {8586, 2442, 36, 9},
-    {8623, 2442, 38, 9}, {8662, 2451, 36, 9}, {8704, 2451, 38, 9}, {8743, 2460, 36, 9}, {8780, 2460, 38, 9},
-    {8819, 2469, 24, 7}, {8844, 2476, 24, 7}, {8869, 2483, 28, 8}, {8898, 2491, 26, 9}, {8925, 2491, 32, 9},
-    {8958, 2500, 4, 5}, {8963, 2505, 5, 5}, {8969, 2510, 6, 5}, {8976, 2515, 15, 5}, {8992, 2515, 23, 5},
-    {9016, 2520, 14, 5}, {9031, 2520, 22, 5}, {9054, 2525, 13, 5}, {9068, 2525, 21, 5}, {9090, 2530, 16, 6},
-    {9107, 2530, 25, 6}, {9133, 2536, 16, 6}, {9150, 2536, 25, 6}, {9176, 2542, 16, 6}, {9216, 2542, 25, 6},
-    {9242, 2548, 16, 6}, {9259, 2548, 25, 6}, {9285, 2560, 16, 6}, {9302, 2560, 25, 6}, {9328, 2566, 16, 6},
-    {9345, 2566, 25, 6}, {9371, 2572, 19, 8}, {9391, 2580, 14, 8}, {9406, 2588, 17, 8}, {9424, 2596, 16, 7},
-    {9441, 2603, 12, 5}, {9454, 2608, 10, 6}, {9465, 2614, 17, 7}, {9483, 2621, 6, 3}, {9490, 2624, 6, 7},
-    {9497, 2631, 9, 10}, {9507, 2631, 20, 10}, {9528, 2641, 13, 11}, {9542, 2641, 29, 11}, {9572, 2652, 13, 11},
-    {9586, 2652, 29, 11}, {9616, 2663, 14, 11}, {9631, 2663, 29, 11}, {9661, 2674, 17, 10}, {9679, 2674, 23, 10},
-    {9703, 2684, 9, 10}, {9728, 2684, 18, 10}, {9747, 2694, 10, 11}, {9758, 2694, 28, 11}, {9787, 2705, 10, 13},
-    {9798, 2705, 25, 13}, {9824, 2718, 8, 13}, {9833, 2718, 12, 13}, {9846, 2731, 8, 13}, {9855, 2731, 12, 13},
-    {9868, 2744, 8, 13}, {9877, 2744, 12, 13}, {9890, 2757, 8, 13}, {9899, 2757, 12, 13}, {9912, 2770, 8, 13},
-    {9921, 2770, 12, 13}, {9934, 2783, 8, 13}, {9943, 2783, 12, 13}, {9956, 2796, 8, 13}, {9965, 2796, 12, 13},
-    {9978, 2809, 8, 13}, {9987, 2809, 12, 13}, {10000, 2822, 8, 13}, {10009, 2822, 12, 13}, {10022, 2835, 8, 13},
-    {10031, 2835, 12, 13}, {10044, 2848, 31, 11}, {10076, 2859, 6, 3}, {10083, 2859, 18, 3}, {10102, 2862, 5, 5},
-    {10108, 2862, 5, 5}, {10114, 2867, 19, 7}, {10134, 2867, 21, 7}, {10156, 2874, 25, 7}, {10182, 2874, 28, 7},
-    {10211, 2881, 21, 7}, {10240, 2881, 23, 7}, {10264, 2888, 4, 6}, {10269, 2888, 10, 6}, {10280, 2894, 3, 7},
-    {10284, 2894, 13, 7}, {10298, 2894, 24, 7}, {10323, 2894, 6, 7}, {10330, 2901, 8, 7}, {10339, 2901, 11, 7},
-    {10351, 2901, 9, 7}, {10361, 2901, 16, 7}, {10378, 2901, 14, 7}, {10393, 2901, 11, 7}, {10405, 2901, 3, 7},
-    {10409, 2901, 42, 7}, {10452, 2901, 8, 7}, {10461, 2901, 16, 7}, {10478, 2908, 10, 5}, {10489, 2913, 12, 6},
-    {10502, 2919, 11, 7}, {10514, 2919, 11, 7}, {10526, 2926, 24, 7}, {10551, 2926, 24, 7}, {10576, 2933, 27, 8},
-    {10604, 2941, 7, 9}, {10612, 2941, 7, 9}, {10620, 2950, 7, 9}, {10628, 2959, 7, 9}, {10636, 2968, 16, 6},
-    {10653, 2974, 2, 7}, {10656, 2974, 5, 7}, {10662, 2974, 8, 7}, {10671, 2974, 31, 7}, {10703, 2974, 11, 7},
-    {10715, 2974, 14, 7}, {10730, 2981, 10, 7}, {10752, 2988, 10, 8}, {10763, 2996, 10, 8}, {10774, 3004, 10, 8},
-    {10785, 3012, 10, 8}, {10796, 3012, 10, 8}, {10807, 3020, 10, 8}, {10818, 3028, 10, 8}, {10829, 3036, 10, 8},
-    {10840, 3044, 10, 8}, {10851, 3052, 10, 8}, {10862, 3060, 10, 8}, {10873, 3072, 10, 8}, {10884, 3080, 10, 8},
-    {10895, 3088, 10, 8}, {10906, 3096, 10, 8}, {10917, 3104, 10, 8}, {10928, 3112, 10, 8}, {10939, 3120, 10, 8},
-    {10950, 3128, 10, 8}, {10961, 3136, 10, 8}, {10972, 3144, 10, 8}, {10983, 3152, 10, 7}, {10994, 3159, 5, 8},
-    {11000, 3159, 10, 8}, {11011, 3159, 9, 8}, {11021, 3159, 10, 8}, {11032, 3159, 4, 8}, {11037, 3159, 8, 8},
-    {11046, 3159, 8, 8}, {11055, 3167, 10, 8}, {11066, 3175, 10, 8}, {11077, 3183, 10, 8}, {11088, 3191, 10, 8},
-    {11099, 3199, 10, 8}, {11110, 3207, 5, 8}, {11116, 3207, 10, 8}, {11127, 3207, 8, 8}, {11136, 3207, 10, 8},
-    {11147, 3207, 4, 8}, {11152, 3207, 8, 8}, {11161, 3215, 12, 6}, {11174, 3221, 15, 7}, {11190, 3221, 11, 7},
-    {11202, 3221, 10, 7}, {11213, 3221, 16, 7}, {11230, 3221, 13, 7}, {11264, 3221, 32, 7}, {11297, 3221, 13, 7},
-    {11311, 3221, 10, 7}, {11322, 3221, 15, 7}, {11338, 3228, 22, 7}, {11361, 3228, 45, 7}, {11407, 3235, 20, 7},
-    {11428, 3235, 22, 7}, {11451, 3235, 43, 7}, {11495, 3242, 14, 8}, {11510, 3242, 12, 8}, {11523, 3242, 15, 8},
-    {11539, 3242, 33, 8}, {11573, 3242, 12, 8}, {11586, 3242, 17, 8}, {11604, 3250, 14, 8}, {11619, 3250, 12, 8},
-    {11632, 3250, 5, 8}, {11638, 3250, 18, 8}, {11657, 3250, 15, 8}, {11673, 3250, 33, 8}, {11707, 3250, 15, 8},
-    {11723, 3250, 12, 8}, {11736, 3250, 17, 8}, {11754, 3258, 14, 8}, {11776, 3258, 12, 8}, {11789, 3258, 5, 8},
-    {11795, 3258, 18, 8}, {11814, 3258, 15, 8}, {11830, 3258, 33, 8}, {11864, 3258, 15, 8}, {11880, 3258, 12, 8},
-    {11893, 3258, 17, 8}, {11911, 3266, 14, 8}, {11926, 3266, 12, 8}, {11939, 3266, 5, 8}, {11945, 3266, 18, 8},
-    {11964, 3266, 15, 8}, {11980, 3266, 33, 8}, {12014, 3266, 15, 8}, {12030, 3266, 12, 8}, {12043, 3266, 17, 8},
-    {12061, 3274, 8, 7}, {12070, 3274, 3, 7}, {12074, 3274, 16, 7}, {12091, 3281, 19, 9}, {12111, 3281, 7, 9},
-    {12119, 3290, 25, 9}, {12145, 3299, 9, 9}, {12155, 3299, 9, 9}, {12165, 3308, 21, 9}, {12187, 3317, 18, 9},
-    {12206, 3326, 24, 9}, {12231, 3335, 17, 9}, {12249, 3344, 23, 6}, {12288, 3350, 28, 7}, {12317, 3357, 5, 8},
-    {12323, 3365, 6, 9}, {12330, 3365, 20, 9}, {12351, 3365, 22, 9}, {12374, 3365, 15, 9}, {12390, 3365, 14, 9},
-    {12405, 3374, 7, 9}, {12413, 3374, 10, 9}, {12424, 3374, 31, 9}, {12456, 3374, 7, 9}, {12464, 3374, 7, 9},
-    {12472, 3383, 7, 9}, {12480, 3383, 20, 9}, {12501, 3383, 31, 9}, {12533, 3392, 7, 9}, {12541, 3392, 23, 9},
-    {12565, 3392, 7, 9}, {12573, 3392, 31, 9}, {12605, 3392, 7, 9}, {12613, 3401, 8, 9}, {12622, 3401, 9, 9},
-    {12632, 3401, 25, 9}, {12658, 3401, 8, 9}, {12667, 3401, 33, 9}, {12701, 3401, 8, 9}, {12710, 3410, 20, 9},
-    {12731, 3419, 10, 9}, {12742, 3419, 9, 9}, {12752, 3419, 8, 9}, {12761, 3419, 4, 9}, {12766, 3419, 27, 9},
-    {12800, 3419, 10, 9}, {12811, 3419, 13, 9}, {12825, 3428, 4, 9}, {12830, 3428, 4, 9}, {12835, 3428, 37, 9},
-    {12873, 3437, 10, 9}, {12884, 3437, 10, 9}, {12895, 3437, 57, 9}, {12953, 3437, 11, 9}, {12965, 3446, 10, 9},
-    {12976, 3446, 9, 9}, {12986, 3446, 7, 9}, {12994, 3446, 13, 9}, {13008, 3446, 13, 9}, {13022, 3446, 13, 9},
-    {13036, 3446, 14, 9}, {13051, 3446, 14, 9}, {13066, 3446, 14, 9}, {13081, 3446, 25, 9}, {13107, 3446, 16, 9},
-    {13124, 3446, 16, 9}, {13141, 3446, 16, 9}, {13158, 3446, 10, 9}, {13169, 3446, 13, 9}, {13183, 3455, 10, 9},
-    {13194, 3455, 12, 9}, {13207, 3455, 5, 9}, {13213, 3455, 27, 9}, {13241, 3455, 13, 9}, {13255, 3455, 10, 9},
-    {13266, 3455, 35, 9}, {13312, 3455, 10, 9}, {13323, 3464, 10, 9}, {13334, 3464, 12, 9}, {13347, 3464, 5, 9},
-    {13353, 3464, 27, 9}, {13381, 3464, 13, 9}, {13395, 3464, 10, 9}, {13406, 3464, 35, 9}, {13442, 3464, 10, 9},
-    {13453, 3473, 10, 9}, {13464, 3473, 12, 9}, {13477, 3473, 5, 9}, {13483, 3473, 27, 9}, {13511, 3473, 13, 9},
-    {13525, 3473, 10, 9}, {13536, 3473, 35, 9}, {13572, 3473, 10, 9}, {13583, 3482, 10, 9}, {13594, 3482, 12, 9},
-    {13607, 3482, 13, 9}, {13621, 3482, 35, 9}, {13657, 3482, 10, 9}, {13668, 3491, 14, 9}, {13683, 3491, 27, 9},
-    {13711, 3491, 16, 9}, {13728, 3491, 14, 9}, {13743, 3491, 17, 9}, {13761, 3500, 14, 9}, {13776, 3500, 27, 9},
-    {13804, 3500, 16, 9}, {13824, 3500, 14, 9}, {13839, 3500, 17, 9}, {13857, 3509, 5, 8}, {13863, 3517, 14, 9},
-    {13878, 3517, 2, 9}, {13881, 3517, 13, 9}, {13895, 3526, 5, 8}, {13901, 3526, 6, 8}, {13908, 3534, 11, 9},
-    {13920, 3534, 20, 9}, {13941, 3534, 13, 9}, {13955, 3543, 11, 9}, {13967, 3543, 20, 9}, {13988, 3543, 16, 9},
-    {14005, 3543, 13, 9}, {14019, 3552, 14, 9}, {14034, 3552, 20, 9}, {14055, 3552, 13, 9}, {14069, 3561, 14, 9},
-    {14084, 3561, 20, 9}, {14105, 3561, 16, 9}, {14122, 3561, 13, 9}, {14136, 3570, 12, 9}, {14149, 3570, 21, 9},
-    {14171, 3570, 17, 9}, {14189, 3570, 14, 9}, {14204, 3584, 15, 9}, {14220, 3584, 21, 9}, {14242, 3584, 17, 9},
-    {14260, 3584, 14, 9}, {14275, 3593, 6, 9}, {14282, 3593, 18, 9}, {14336, 3593, 46, 9}, {14383, 3593, 9, 9},
-    {14393, 3602, 5, 9}, {14399, 3602, 8, 9}, {14408, 3602, 36, 9}, {14445, 3602, 8, 9}, {14454, 3611, 6, 9},
-    {14461, 3611, 9, 9}, {14471, 3611, 40, 9}, {14512, 3611, 9, 9}, {14522, 3620, 5, 8}, {14528, 3620, 6, 8},
-    {14535, 3620, 7, 8}, {14543, 3628, 10, 9}, {14554, 3628, 12, 9}, {14567, 3628, 7, 9}, {14575, 3637, 16, 9},
-    {14592, 3637, 10, 9}, {14603, 3637, 19, 9}, {14623, 3637, 11, 9}, {14635, 3637, 13, 9}, {14649, 3646, 19, 9},
-    {14669, 3646, 13, 9}, {14683, 3646, 22, 9}, {14706, 3646, 14, 9}, {14721, 3646, 16, 9}, {14738, 3655, 28, 9},
-    {14767, 3655, 22, 9}, {14790, 3655, 33, 9}, {14848, 3655, 25, 9}, {14874, 3664, 16, 9}, {14891, 3664, 12, 9},
-    {14904, 3664, 21, 9}, {14926, 3664, 13, 9}, {14940, 3664, 15, 9}, {14956, 3673, 19, 9}, {14976, 3673, 13, 9},
-    {14990, 3673, 22, 9}, {15013, 3673, 14, 9}, {15028, 3673, 16, 9}, {15045, 3682, 5, 8}, {15051, 3690, 15, 9},
-    {15067, 3690, 10, 9}, {15078, 3690, 1, 9}, {15080, 3690, 13, 9}, {15094, 3690, 21, 9}, {15116, 3690, 13, 9},
-    {15130, 3699, 16, 9}, {15147, 3708, 11, 9}, {15159, 3708, 20, 9}, {15180, 3708, 12, 9}, {15193, 3708, 14, 9},
-    {15208, 3717, 13, 9}, {15222, 3717, 22, 9}, {15245, 3717, 14, 9}, {15260, 3717, 16, 9}, {15277, 3726, 11, 9},
-    {15289, 3726, 20, 9}, {15310, 3726, 12, 9}, {15323, 3726, 14, 9}, {15338, 3735, 16, 9}, {15360, 3735, 25, 9},
-    {15386, 3735, 17, 9}, {15404, 3744, 17, 9}, {15422, 3744, 18, 9}, {15441, 3753, 19, 9}, {15461, 3762, 29, 9},
-    {15491, 3762, 31, 9}, {15523, 3771, 21, 9}, {15545, 3780, 6, 9}, {15552, 3780, 17, 9}, {15570, 3780, 16, 9},
-    {15587, 3780, 25, 9}, {15613, 3780, 17, 9}, {15631, 3789, 10, 9}, {15642, 3789, 19, 9}, {15662, 3789, 15, 9},
-    {15678, 3789, 27, 9}, {15706, 3789, 18, 9}, {15725, 3798, 6, 9}, {15732, 3807, 12, 10}, {15745, 3817, 16, 11},
-    {15762, 3828, 16, 11}, {15779, 3839, 16, 11}, {15796, 3850, 19, 11}, {15816, 3861, 30, 11}, {15872, 3872, 30, 11},
-    {15903, 3883, 30, 11}, {15934, 3894, 30, 11}, {15965, 3905, 11, 10}, {15977, 3915, 20, 11}, {15998, 3926, 19, 11},
-    {16018, 3926, 7, 11}, {16026, 3937, 20, 11}, {16047, 3937, 17, 11}, {16065, 3937, 8, 11}, {16074, 3937, 18, 11},
-    {16093, 3948, 23, 11}, {16117, 3959, 19, 11}, {16137, 3959, 7, 11}, {16145, 3959, 18, 11}, {16164, 3959, 8, 11},
-    {16173, 3959, 13, 11}, {16187, 3970, 19, 11}, {16207, 3981, 23, 11}, {16231, 3981, 11, 11}, {16243, 3981, 17, 11},
-    {16261, 3992, 27, 11}, {16289, 4003, 28, 11}, {16318, 4014, 26, 11}, {16345, 4014, 14, 11}, {16360, 4014, 15, 11},
-    {16384, 4025, 15, 11}, {16400, 4036, 29, 11}, {16430, 4047, 29, 11}, {16460, 4047, 17, 11}, {16478, 4047, 28, 11},
-    {16507, 4058, 22, 11}, {16530, 4069, 18, 11}, {16549, 4080, 23, 11}, {16573, 4096, 9, 11}, {16583, 4107, 9, 11},
-    {16593, 4118, 16, 11}, {16610, 4129, 16, 11}, {16627, 4140, 21, 11}, {16649, 4151, 22, 11}, {16672, 4162, 26, 11},
-    {16699, 4173, 22, 11}, {16722, 4184, 18, 11}, {16741, 4195, 10, 11}, {16752, 4206, 13, 11}, {16766, 4217, 10, 11},
-    {16777, 4228, 18, 11}, {16796, 4239, 24, 11}, {16821, 4250, 21, 11}, {16843, 4261, 10, 11}, {16854, 4272, 15, 11},
-    {16896, 4283, 26, 11}, {16923, 4294, 11, 10}, {16935, 4304, 26, 11}, {16962, 4304, 14, 11}, {16977, 4315, 25, 11},
-    {17003, 4315, 13, 11}, {17017, 4326, 27, 11}, {17045, 4326, 15, 11}, {17061, 4337, 23, 11}, {17085, 4337, 11, 11},
-    {17097, 4348, 24, 11}, {17122, 4348, 12, 11}, {17135, 4359, 28, 11}, {17164, 4370, 29, 11}, {17194, 4370, 17, 11},
-    {17212, 4381, 20, 11}, {17233, 4392, 28, 11}, {17262, 4392, 16, 11}, {17279, 4403, 28, 11}, {17308, 4403, 16, 11},
-    {17325, 4414, 25, 11}, {17351, 4414, 13, 11}, {17365, 4414, 16, 11}, {17408, 4425, 30, 11}, {17439, 4425, 18, 11},
-    {17458, 4425, 19, 11}, {17478, 4425, 24, 11}, {17503, 4436, 29, 11}, {17533, 4447, 26, 11}, {17560, 4447, 14, 11},
-    {17575, 4447, 29, 11}, {17605, 4447, 23, 11}, {17629, 4447, 26, 11}, {17656, 4458, 27, 11}, {17684, 4458, 21, 11},
-    {17706, 4469, 30, 11}, {17737, 4469, 24, 11}, {17762, 4480, 30, 11}, {17793, 4480, 24, 11}, {17818, 4491, 26, 11},
-    {17845, 4491, 20, 11}, {17866, 4502, 28, 11}, {17920, 4502, 22, 11}, {17943, 4513, 32, 11}, {17976, 4513, 26, 11},
-    {18003, 4524, 31, 11}, {18035, 4524, 25, 11}, {18061, 4535, 30, 11}, {18092, 4535, 24, 11}, {18117, 4546, 26, 11},
-    {18144, 4546, 20, 11}, {18165, 4557, 32, 11}, {18198, 4557, 26, 11}, {18225, 4568, 28, 11}, {18254, 4568, 22, 11},
-    {18277, 4579, 32, 11}, {18310, 4579, 26, 11}, {18337, 4590, 32, 11}, {18370, 4608, 25, 11}, {18396, 4619, 20, 11},
-    {18432, 4630, 24, 11}, {18457, 4641, 29, 11}, {18487, 4652, 28, 11}, {18516, 4663, 32, 11}, {18549, 4663, 20, 11},
-    {18570, 4663, 22, 11}, {18593, 4663, 26, 11}, {18620, 4674, 28, 11}, {18649, 4685, 23, 11}, {18673, 4696, 34, 11},
-    {18708, 4707, 18, 11}, {18727, 4718, 25, 11}, {18753, 4729, 24, 11}, {18778, 4740, 12, 10}, {18791, 4750, 25, 11},
-    {18817, 4761, 24, 11}, {18842, 4772, 21, 11}, {18864, 4783, 20, 11}, {18885, 4794, 17, 11}, {18903, 4805, 24, 11},
-    {18928, 4805, 9, 11}, {18944, 4816, 23, 11}, {18968, 4827, 4, 11}, {18973, 4827, 16, 11}, {18990, 4838, 15, 11},
-    {19006, 4849, 25, 11}, {19032, 4860, 10, 11}, {19043, 4871, 22, 11}, {19066, 4882, 27, 11}, {19094, 4882, 17, 11},
-    {19112, 4893, 37, 11}, {19150, 4904, 37, 11}, {19188, 4915, 37, 11}, {19226, 4926, 23, 11}, {19250, 4926, 11, 11},
-    {19262, 4937, 23, 11}, {19286, 4937, 11, 11}, {19298, 4948, 23, 11}, {19322, 4948, 11, 11}, {19334, 4959, 11, 10},
-    {19346, 4969, 16, 11}, {19363, 4980, 12, 10}, {19376, 4990, 24, 11}, {19401, 5001, 28, 11}, {19430, 5012, 12, 10},
-    {19456, 5022, 30, 11}, {19487, 5033, 31, 11}, {19519, 5044, 32, 11}, {19552, 5055, 30, 11}, {19583, 5066, 32, 11},
-    {19616, 5077, 32, 11}, {19649, 5088, 12, 10}, {19662, 5098, 16, 11}, {19679, 5120, 12, 9}, {19692, 5120, 21, 9},
-    {19714, 5120, 13, 9}, {19728, 5129, 10, 9}, {19739, 5129, 20, 9}, {19760, 5129, 12, 9}, {19773, 5138, 15, 10},
-    {19789, 5138, 12, 10}, {19802, 5148, 15, 10}, {19818, 5148, 4, 10}, {19823, 5158, 7, 10}, {19831, 5168, 28, 9},
-    {19860, 5168, 19, 9}, {19880, 5168, 25, 9}, {19906, 5168, 22, 9}, {19929, 5168, 24, 9}, {19954, 5177, 8, 8},
-    {19968, 5185, 16, 10}, {19985, 5185, 23, 10}, {20009, 5185, 21, 10}, {20031, 5185, 19, 10}, {20051, 5195, 15, 10},
-    {20067, 5195, 22, 10}, {20090, 5195, 20, 10}, {20111, 5195, 18, 10}, {20130, 5205, 13, 10}, {20144, 5205, 32, 10},
-    {20177, 5205, 20, 10}, {20198, 5205, 26, 10}, {20225, 5215, 13, 10}, {20239, 5215, 32, 10}, {20272, 5215, 26, 10},
-    {20299, 5225, 16, 10}, {20316, 5225, 27, 10}, {20344, 5225, 21, 10}, {20366, 5225, 19, 10}, {20386, 5235, 15, 10},
-    {20402, 5235, 26, 10}, {20429, 5235, 20, 10}, {20450, 5235, 18, 10}, {20469, 5245, 6, 11}, {20480, 5245, 9, 11},
-    {20490, 5245, 7, 11}, {20498, 5256, 19, 11}, {20518, 5256, 22, 11}, {20541, 5256, 22, 11}, {20564, 5267, 7, 11},
-    {20572, 5267, 10, 11}, {20583, 5267, 8, 11}, {20592, 5267, 10, 11}, {20603, 5278, 6, 11}, {20610, 5278, 9, 11},
-    {20620, 5278, 7, 11}, {20628, 5289, 9, 11}, {20638, 5289, 12, 11}, {20651, 5289, 10, 11}, {20662, 5300, 15, 11},
-    {20678, 5300, 18, 11}, {20697, 5300, 13, 11}, {20711, 5311, 3, 8}, {20715, 5311, 3, 8}, {20719, 5319, 3, 8},
-    {20723, 5319, 3, 8}, {20727, 5327, 3, 8}, {20731, 5327, 3, 8}, {20735, 5327, 8, 8}, {20744, 5335, 11, 8},
-    {20756, 5343, 12, 8}, {20769, 5343, 15, 8}, {20785, 5343, 8, 8}, {20794, 5343, 10, 8}, {20805, 5351, 14, 8},
-    {20820, 5351, 10, 8}, {20831, 5351, 12, 8}, {20844, 5351, 11, 8}, {20856, 5359, 14, 8}, {20871, 5359, 5, 8},
-    {20877, 5359, 10, 8}, {20888, 5359, 12, 8}, {20901, 5359, 11, 8}, {20913, 5367, 14, 8}, {20928, 5367, 5, 8},
-    {20934, 5367, 10, 8}, {20945, 5367, 12, 8}, {20958, 5367, 11, 8}, {20970, 5375, 14, 8}, {20992, 5375, 5, 8},
-    {20998, 5375, 10, 8}, {21009, 5375, 12, 8}, {21022, 5375, 11, 8}, {21034, 5383, 18, 8}, {21053, 5383, 21, 8},
-    {21075, 5383, 14, 8}, {21090, 5391, 18, 8}, {21109, 5391, 21, 8}, {21131, 5391, 14, 8}, {21146, 5399, 19, 7},
-    {21166, 5406, 6, 8}, {21173, 5406, 20, 8}, {21194, 5406, 3, 8}, {21198, 5414, 3, 8}, {21202, 5414, 3, 8},
-    {21206, 5414, 7, 8}, {21214, 5422, 4, 8}, {21219, 5422, 20, 8}, {21240, 5422, 14, 8}, {21255, 5430, 7, 8},
-    {21263, 5430, 7, 8}, {21271, 5438, 11, 8}, {21283, 5438, 20, 8}, {21304, 5438, 3, 8}, {21308, 5446, 8, 8},
-    {21317, 5446, 8, 8}, {21326, 5454, 6, 8}, {21333, 5462, 18, 10}, {21352, 5462, 21, 10}, {21374, 5472, 25, 10},
-    {21400, 5482, 24, 10}, {21425, 5492, 26, 10}, {21452, 5492, 34, 10}, {21487, 5502, 4, 9}, {21504, 5502, 13, 9},
-    {21518, 5511, 26, 10}, {21545, 5521, 27, 10}, {21573, 5531, 21, 10}, {21595, 5541, 16, 11}, {21612, 5552, 16, 11},
-    {21629, 5563, 13, 11}, {21643, 5574, 22, 11}, {21666, 5585, 21, 11}, {21688, 5596, 12, 9}, {21701, 5605, 11, 9},
-    {21713, 5614, 11, 9}, {21725, 5632, 12, 9}, {21738, 5641, 14, 9}, {21753, 5650, 10, 9}, {21764, 5659, 10, 9},
-    {21775, 5668, 9, 9}, {21785, 5677, 8, 9}, {21794, 5686, 11, 9}, {21806, 5695, 15, 9}, {21822, 5704, 14, 9},
-    {21837, 5713, 9, 9}, {21847, 5722, 17, 9}, {21865, 5731, 13, 9}, {21879, 5740, 8, 9}, {21888, 5749, 12, 9},
-    {21901, 5758, 10, 9}, {21912, 5767, 10, 9}, {21923, 5776, 10, 10}, {21934, 5786, 7, 10}, {21942, 5796, 22, 10},
-    {21965, 5806, 16, 10}, {21982, 5816, 14, 10}, {21997, 5826, 12, 10}, {22016, 5836, 16, 10}, {22033, 5846, 8, 10},
-    {22042, 5856, 14, 10}, {22057, 5866, 20, 10}, {22078, 5876, 11, 10}, {22090, 5886, 19, 10}, {22110, 5896, 13, 10},
-    {22124, 5906, 15, 10}, {22140, 5916, 11, 10}, {22152, 5926, 8, 9}, {22161, 5935, 9, 9}, {22171, 5944, 8, 9},
-    {22180, 5953, 10, 9}, {22191, 5962, 18, 9}, {22210, 5971, 11, 9}, {22222, 5980, 8, 9}, {22231, 5989, 11, 9},
-    {22243, 5998, 10, 9}, {22254, 6007, 9, 9}, {22264, 6016, 15, 9}, {22280, 6025, 10, 9}, {22291, 6034, 9, 9},
-    {22301, 6043, 7, 9}, {22309, 6052, 8, 9}, {22318, 6061, 15, 9}, {22334, 6070, 24, 9}, {22359, 6079, 10, 9},
-    {22370, 6088, 10, 9}, {22381, 6097, 16, 9}, {22398, 6106, 9, 9}, {22408, 6115, 9, 9}, {22418, 6124, 12, 9},
-    {22431, 6144, 16, 9}, {22448, 6153, 11, 9}, {22460, 6162, 10, 9}, {22471, 6171, 13, 9}, {22485, 6180, 16, 9},
-    {22502, 6189, 10, 9}, {22528, 6198, 14, 9}, {22543, 6207, 23, 9}, {22567, 6216, 14, 10}, {22582, 6226, 12, 10},
-    {22595, 6236, 9, 10}, {22605, 6246, 14, 10}, {22620, 6256, 11, 10}, {22632, 6266, 9, 10}, {22642, 6276, 12, 10},
-    {22655, 6286, 10, 10}, {22666, 6296, 7, 10}, {22674, 6306, 14, 10}, {22689, 6316, 10, 10}, {22700, 6326, 14, 10},
-    {22715, 6336, 8, 10}, {22724, 6346, 14, 10}, {22739, 6356, 7, 10}, {22747, 6366, 25, 10}, {22773, 6376, 15, 10},
-    {22789, 6386, 22, 10}, {22812, 6396, 26, 10}, {22839, 6406, 13, 10}, {22853, 6416, 11, 10}, {22865, 6426, 9, 10},
-    {22875, 6436, 21, 10}, {22897, 6446, 27, 10}, {22925, 6456, 15, 10}, {22941, 6466, 24, 10}, {22966, 6476, 25, 10},
-    {22992, 6486, 8, 10}, {23001, 6496, 10, 10}, {23040, 6506, 34, 10}, {23075, 6516, 26, 10}, {23102, 6526, 10, 10},
-    {23113, 6536, 16, 10}, {23130, 6546, 26, 10}, {23157, 6546, 11, 10}, {23169, 6556, 17, 10}, {23187, 6566, 29, 10},
-    {23217, 6576, 11, 10}, {23229, 6586, 9, 10}, {23239, 6596, 9, 10}, {23249, 6606, 14, 10}, {23264, 6616, 16, 10},
-    {23281, 6626, 17, 10}, {23299, 6636, 11, 10}, {23311, 6656, 9, 10}, {23321, 6666, 7, 10}, {23329, 6676, 12, 10},
-    {23342, 6686, 3, 10}, {23346, 6696, 9, 10}, {23356, 6706, 20, 10}, {23377, 6716, 15, 10}, {23393, 6726, 14, 10},
-    {23408, 6736, 33, 10}, {23442, 6746, 18, 10}, {23461, 6746, 26, 10}, {23488, 6756, 17, 10}, {23506, 6756, 25, 10},
-    {23552, 6766, 26, 10}, {23579, 6776, 20, 10}, {23600, 6786, 22, 10}, {23623, 6796, 21, 10}, {23645, 6806, 22, 10},
-    {23668, 6816, 11, 10}, {23680, 6826, 6, 10}, {23687, 6836, 9, 10}, {23697, 6846, 14, 10}, {23712, 6856, 19, 10},
-    {23732, 6866, 28, 10}, {23761, 6876, 17, 10}, {23779, 6886, 26, 10}, {23806, 6896, 13, 10}, {23820, 6906, 15, 10},
-    {23836, 6916, 11, 10}, {23848, 6926, 25, 10}, {23874, 6936, 17, 10}, {23892, 6946, 17, 10}, {23910, 6956, 18, 10},
-    {23929, 6966, 19, 10}, {23949, 6976, 14, 10}, {23964, 6986, 27, 10}, {23992, 6996, 29, 10}, {24022, 7006, 24, 10},
-    {24064, 7016, 21, 10}, {24086, 7026, 21, 10}, {24108, 7036, 21, 10}, {24130, 7046, 16, 10}, {24147, 7056, 25, 10},
-    {24173, 7066, 17, 10}, {24191, 7076, 32, 10}, {24224, 7086, 29, 10}, {24254, 7096, 18, 10}, {24273, 7106, 21, 10},
-    {24295, 7116, 27, 10}, {24323, 7126, 22, 10}, {24346, 7136, 29, 10}, {24376, 7146, 23, 10}, {24400, 7168, 21, 10},
-    {24422, 7178, 34, 10}, {24457, 7188, 36, 10}, {24494, 7198, 18, 10}, {24513, 7208, 26, 10}, {24540, 7218, 26, 10},
-    {24576, 7228, 21, 10}, {24598, 7238, 24, 10}, {24623, 7248, 17, 10}, {24641, 7258, 18, 10}, {24660, 7268, 34, 10},
-    {24695, 7268, 27, 10}, {24723, 7278, 9, 10}, {24733, 7288, 11, 10}, {24745, 7298, 13, 10}, {24759, 7308, 29, 10},
-    {24789, 7318, 39, 10}, {24829, 7328, 15, 10}, {24845, 7338, 17, 10}, {24863, 7348, 14, 10}, {24878, 7358, 35, 10},
-    {24914, 7368, 15, 10}, {24930, 7378, 17, 10}, {24948, 7388, 10, 10}, {24959, 7398, 13, 9}, {24973, 7407, 17, 9},
-    {24991, 7416, 5, 9}, {24997, 7425, 4, 9}, {25002, 7434, 7, 9}, {25010, 7443, 6, 9}, {25017, 7452, 10, 9},
-    {25028, 7461, 4, 9}, {25033, 7470, 13, 9}, {25047, 7479, 6, 9}, {25054, 7488, 9, 9}, {25088, 7497, 24, 9},
-    {25113, 7506, 6, 9}, {25120, 7515, 22, 9}, {25143, 7524, 20, 10}, {25164, 7534, 22, 10}, {25187, 7544, 20, 10},
-    {25208, 7554, 26, 10}, {25235, 7564, 7, 11}, {25243, 7575, 11, 12}, {25255, 7587, 16, 12}, {25272, 7599, 18, 12},
-    {25291, 7611, 11, 9}, {25303, 7620, 30, 9}, {25334, 7629, 15, 10}, {25350, 7639, 22, 10}, {25373, 7649, 24, 9},
-    {25398, 7658, 16, 9}, {25415, 7667, 9, 9}, {25425, 7680, 20, 9}, {25446, 7689, 13, 9}, {25460, 7698, 20, 9},
-    {25481, 7707, 21, 9}, {25503, 7716, 11, 9}, {25515, 7725, 9, 9}, {25525, 7734, 29, 9}, {25555, 7743, 11, 9},
-    {25567, 7752, 11, 9}, {25600, 7761, 22, 9}, {25623, 7770, 19, 9}, {25643, 7779, 19, 9}, {25663, 7788, 18, 9},
-    {25682, 7797, 21, 9}, {25704, 7806, 19, 9}, {25724, 7815, 19, 9}, {25744, 7824, 16, 9}, {25761, 7833, 22, 9},
-    {25784, 7842, 18, 9}, {25803, 7851, 20, 9}, {25824, 7860, 20, 9}, {25845, 7869, 23, 9}, {25869, 7878, 23, 9},
-    {25893, 7887, 19, 9}, {25913, 7896, 24, 9}, {25938, 7905, 27, 9}, {25966, 7914, 24, 9}, {25991, 7923, 3, 1},
-    {25995, 7923, 3, 1}, {25999, 7923, 23, 1}, {26023, 7923, 5, 1}, {26029, 7924, 17, 5}, {26047, 7929, 3, 2},
-    {26051, 7929, 3, 2}, {26055, 7931, 8, 3}, {26064, 7931, 4, 3}, {26069, 7931, 4, 3}, {26074, 7934, 9, 4},
-    {26084, 7934, 9, 4}, {26094, 7938, 9, 7}, {26112, 7945, 9, 7}, {26122, 7952, 5, 7}, {26128, 7959, 13, 7},
-    {26142, 7959, 17, 7}, {26160, 7966, 10, 7}, {26171, 7973, 16, 7}, {26188, 7980, 9, 7}, {26198, 7987, 9, 7},
-    {26208, 7994, 13, 7}, {26222, 8001, 14, 7}, {26237, 8008, 12, 7}, {26250, 8015, 10, 7}, {26261, 8022, 9, 7},
-    {26271, 8029, 17, 7}, {26289, 8036, 17, 7}, {26307, 8043, 13, 7}, {26321, 8050, 17, 7}, {26339, 8057, 16, 7},
-    {26356, 8064, 12, 7}, {26369, 8071, 12, 7}, {26382, 8078, 15, 7}, {26398, 8085, 15, 7}, {26414, 8092, 10, 7},
-    {26425, 8099, 13, 7}, {26439, 8106, 8, 7}, {26448, 8113, 10, 7}, {26459, 8120, 11, 7}, {26471, 8127, 16, 7},
-    {26488, 8134, 12, 7}, {26501, 8141, 20, 7}, {26522, 8148, 12, 7}, {26535, 8155, 13, 7}, {26549, 8162, 10, 7},
-    {26560, 8169, 9, 7}, {26570, 8176, 10, 7}, {26581, 8192, 6, 7}, {26588, 8199, 6, 7}, {26595, 8206, 9, 7},
-    {26605, 8213, 11, 7}, {26624, 8220, 6, 7}, {26631, 8227, 9, 7}, {26641, 8234, 13, 7}, {26655, 8241, 14, 7},
-    {26670, 8248, 12, 7}, {26683, 8255, 9, 7}, {26693, 8262, 10, 5}, {26704, 8267, 13, 5}, {26718, 8272, 16, 5},
-    {26735, 8277, 19, 5}, {26755, 8282, 21, 6}, {26777, 8288, 22, 6}, {26800, 8294, 29, 5}, {26830, 8299, 14, 5},
-    {26845, 8304, 8, 5}, {26854, 8309, 24, 5}, {26879, 8314, 4, 4}, {26884, 8314, 10, 4}, {26895, 8318, 5, 5},
-    {26901, 8323, 6, 6}, {26908, 8329, 8, 7}, {26917, 8336, 11, 7}, {26929, 8343, 9, 7}, {26939, 8350, 17, 8},
-    {26957, 8358, 10, 7}, {26968, 8365, 7, 7}, {26976, 8372, 11, 7}, {26988, 8379, 11, 7}, {27000, 8386, 15, 7},
-    {27016, 8393, 10, 7}, {27027, 8400, 10, 8}, {27038, 8408, 10, 9}, {27049, 8417, 7, 9}, {27057, 8426, 10, 9},
-    {27068, 8435, 11, 9}, {27080, 8444, 10, 6}, {27091, 8450, 8, 7}, {27100, 8457, 7, 7}, {27108, 8464, 7, 8},
-    {27116, 8472, 7, 9}, {27124, 8481, 7, 9}, {27136, 8490, 6, 9}, {27143, 8499, 5, 9}, {27149, 8508, 7, 9},
-    {27157, 8517, 13, 9}, {27171, 8526, 13, 9}, {27185, 8535, 12, 9}, {27198, 8544, 12, 9}, {27211, 8553, 10, 9},
-    {27222, 8562, 13, 9}, {27236, 8571, 14, 9}, {27251, 8580, 12, 9}, {27264, 8589, 10, 9}, {27275, 8598, 17, 9},
-    {27293, 8607, 11, 9}, {27305, 8616, 14, 9}, {27320, 8625, 15, 9}, {27336, 8634, 13, 9}, {27350, 8643, 11, 9},
-    {27362, 8652, 9, 9}, {27372, 8661, 10, 9}, {27383, 8670, 2, 6}, {27386, 8676, 7, 7}, {27394, 8683, 7, 8},
-    {27402, 8691, 9, 9}, {27412, 8704, 13, 9}, {27426, 8713, 12, 9}, {27439, 8722, 2, 6}, {27442, 8728, 12, 7},
-    {27455, 8735, 12, 7}, {27468, 8742, 12, 7}, {27481, 8749, 13, 7}, {27495, 8756, 14, 7}, {27510, 8763, 15, 7},
-    {27526, 8770, 17, 7}, {27544, 8777, 12, 7}, {27557, 8784, 12, 7}, {27570, 8791, 13, 7}, {27584, 8798, 13, 7},
-    {27598, 8805, 13, 7}, {27612, 8812, 14, 7}, {27627, 8819, 12, 7}, {27648, 8826, 10, 7}, {27659, 8833, 12, 7},
-    {27672, 8840, 9, 7}, {27682, 8847, 11, 7}, {27694, 8854, 13, 7}, {27708, 8861, 11, 7}, {27720, 8868, 11, 8},
-    {27732, 8876, 11, 9}, {27744, 8885, 14, 9}, {27759, 8894, 14, 9}, {27774, 8903, 16, 9}, {27791, 8912, 19, 9},
-    {27811, 8921, 12, 7}, {27824, 8928, 12, 8}, {27837, 8936, 11, 9}, {27849, 8945, 14, 9}, {27864, 8954, 14, 9},
-    {27879, 8963, 14, 9}, {27894, 8972, 14, 9}, {27909, 8981, 14, 9}, {27924, 8990, 14, 9}, {27939, 8999, 11, 9},
-    {27951, 9008, 12, 9}, {27964, 9017, 10, 9}, {27975, 9026, 11, 9}, {27987, 9035, 14, 9}, {28002, 9044, 11, 9},
-    {28014, 9053, 17, 7}, {28032, 9060, 17, 8}, {28050, 9068, 19, 9}, {28070, 9077, 23, 9}, {28094, 9086, 22, 9},
-    {28117, 9095, 16, 9}, {28134, 9104, 17, 7}, {28160, 9111, 9, 7}, {28170, 9118, 15, 8}, {28186, 9126, 14, 8},
-    {28201, 9134, 14, 9}, {28216, 9143, 13, 10}, {28230, 9153, 13, 10}, {28244, 9163, 15, 10}, {28260, 9173, 16, 10},
-    {28277, 9183, 16, 10}, {28294, 9193, 13, 10}, {28308, 9203, 14, 10}, {28323, 9216, 12, 10}, {28336, 9226, 13, 10},
-    {28350, 9236, 18, 10}, {28369, 9246, 16, 10}, {28386, 9256, 16, 10}, {28403, 9266, 16, 10}, {28420, 9276, 16, 10},
-    {28437, 9286, 16, 10}, {28454, 9296, 17, 8}, {28472, 9304, 16, 8}, {28489, 9312, 16, 9}, {28506, 9321, 15, 10},
-    {28522, 9331, 15, 10}, {28538, 9341, 14, 10}, {28553, 9351, 18, 10}, {28572, 9361, 18, 10}, {28591, 9371, 15, 10},
-    {28607, 9381, 16, 10}, {28624, 9391, 14, 10}, {28639, 9401, 15, 10}, {28672, 9411, 20, 10}, {28693, 9421, 18, 10},
-    {28712, 9431, 18, 10}, {28731, 9441, 18, 10}, {28750, 9451, 18, 10}, {28769, 9461, 18, 10}, {28788, 9471, 17, 10},
-    {28806, 9481, 19, 8}, {28826, 9489, 18, 8}, {28845, 9497, 18, 9}, {28864, 9506, 21, 10}, {28886, 9516, 17, 10},
-    {28904, 9526, 19, 10}, {28924, 9536, 19, 10}, {28944, 9546, 24, 10}, {28969, 9556, 20, 10}, {28990, 9566, 20, 10},
-    {29011, 9576, 17, 10}, {29029, 9586, 18, 10}, {29048, 9596, 16, 10}, {29065, 9606, 22, 10}, {29088, 9616, 20, 10},
-    {29109, 9626, 20, 10}, {29130, 9636, 20, 10}, {29151, 9646, 20, 10}, {29184, 9656, 20, 10}, {29205, 9666, 19, 10},
-    {29225, 9676, 21, 8}, {29247, 9684, 16, 7}, {29264, 9691, 21, 7}, {29286, 9698, 28, 7}, {29315, 9705, 18, 7},
-    {29334, 9712, 18, 8}, {29353, 9728, 20, 9}, {29374, 9737, 25, 9}, {29400, 9746, 25, 9}, {29426, 9755, 27, 9},
-    {29454, 9764, 28, 7}, {29483, 9771, 18, 7}, {29502, 9778, 18, 8}, {29521, 9786, 20, 9}, {29542, 9795, 25, 9},
-    {29568, 9804, 23, 9}, {29592, 9813, 25, 9}, {29618, 9822, 26, 9}, {29645, 9831, 27, 9}, {29696, 9840, 23, 9},
-    {29720, 9849, 14, 7}, {29735, 9856, 18, 8}, {29754, 9864, 18, 9}, {29773, 9873, 22, 10}, {29796, 9883, 23, 10},
-    {29820, 9893, 25, 10}, {29846, 9903, 21, 10}, {29868, 9913, 23, 10}, {29892, 9923, 24, 10}, {29917, 9933, 23, 10},
-    {29941, 9943, 25, 10}, {29967, 9953, 28, 10}, {29996, 9963, 28, 10}, {30025, 9973, 28, 10}, {30054, 9983, 30, 10},
-    {30085, 9993, 23, 10}, {30109, 10003, 21, 10}, {30131, 10013, 23, 10}, {30155, 10023, 23, 10},
-    {30179, 10033, 23, 10}, {30208, 10043, 25, 10}, {30234, 10053, 24, 10}, {30259, 10063, 26, 10},
-    {30286, 10073, 24, 10}, {30311, 10083, 29, 10}, {30341, 10093, 31, 10}, {30373, 10103, 24, 10},
-    {30398, 10113, 25, 10}, {30424, 10123, 23, 10}, {30448, 10133, 25, 10}, {30474, 10143, 27, 10},
-    {30502, 10153, 25, 10}, {30528, 10163, 27, 10}, {30556, 10173, 22, 10}, {30579, 10183, 24, 10},
-    {30604, 10193, 24, 10}, {30629, 10203, 26, 10}, {30656, 10213, 26, 10}, {30683, 10223, 28, 10},
-    {30720, 10240, 25, 10}, {30746, 10250, 27, 10}, {30774, 10260, 27, 10}, {30802, 10270, 29, 10},
-    {30832, 10280, 24, 10}, {30857, 10290, 26, 10}, {30884, 10300, 25, 10}, {30910, 10310, 27, 10},
-    {30938, 10320, 30, 10}, {30969, 10330, 24, 10}, {30994, 10340, 24, 8}, {31019, 10348, 14, 8}, {31034, 10356, 14, 9},
-    {31049, 10365, 18, 10}, {31068, 10375, 16, 10}, {31085, 10385, 19, 10}, {31105, 10395, 21, 10},
-    {31127, 10405, 17, 10}, {31145, 10415, 19, 10}, {31165, 10425, 20, 10}, {31186, 10435, 19, 10},
-    {31206, 10445, 21, 10}, {31232, 10455, 24, 10}, {31257, 10465, 24, 10}, {31282, 10475, 24, 10},
-    {31307, 10485, 26, 10}, {31334, 10495, 19, 10}, {31354, 10505, 17, 10}, {31372, 10515, 19, 10},
-    {31392, 10525, 19, 10}, {31412, 10535, 19, 10}, {31432, 10545, 21, 10}, {31454, 10555, 20, 10},
-    {31475, 10565, 22, 10}, {31498, 10575, 25, 10}, {31524, 10585, 27, 10}, {31552, 10595, 20, 10},
-    {31573, 10605, 21, 10}, {31595, 10615, 19, 10}, {31615, 10625, 21, 10}, {31637, 10635, 23, 10},
-    {31661, 10645, 21, 10}, {31683, 10655, 23, 10}, {31707, 10665, 18, 10}, {31744, 10675, 20, 10},
-    {31765, 10685, 20, 10}, {31786, 10695, 22, 10}, {31809, 10705, 22, 10}, {31832, 10715, 24, 10},
-    {31857, 10725, 21, 10}, {31879, 10735, 23, 10}, {31903, 10752, 23, 10}, {31927, 10762, 25, 10},
-    {31953, 10772, 20, 10}, {31974, 10782, 22, 10}, {31997, 10792, 21, 10}, {32019, 10802, 23, 10},
-    {32043, 10812, 26, 10}, {32070, 10822, 20, 10}, {32091, 10832, 20, 7}, {32112, 10839, 20, 8}, {32133, 10847, 22, 9},
-    {32156, 10856, 19, 9}, {32176, 10865, 21, 9}, {32198, 10874, 21, 9}, {32220, 10883, 21, 9}, {32256, 10892, 25, 9},
-    {32282, 10901, 29, 9}, {32312, 10910, 35, 9}, {32348, 10919, 31, 9}, {32380, 10928, 17, 7}, {32398, 10935, 14, 7},
-    {32413, 10942, 14, 8}, {32428, 10950, 17, 9}, {32446, 10959, 13, 9}, {32460, 10968, 16, 9}, {32477, 10977, 13, 9},
-    {32491, 10986, 15, 9}, {32507, 10995, 15, 9}, {32523, 11004, 15, 9}, {32539, 11013, 16, 9}, {32556, 11022, 20, 9},
-    {32577, 11031, 18, 9}, {32596, 11040, 20, 9}, {32617, 11049, 20, 7}, {32638, 11056, 20, 8}, {32659, 11064, 22, 9},
-    {32682, 11073, 29, 9}, {32712, 11082, 25, 9}, {32738, 11091, 26, 9}, {32768, 11100, 26, 9}, {32795, 11109, 19, 9},
-    {32815, 11118, 20, 9}, {32836, 11127, 24, 9}, {32861, 11136, 23, 7}, {32885, 11143, 23, 8}, {32909, 11151, 25, 9},
-    {32935, 11160, 27, 9}, {32963, 11169, 19, 9}, {32983, 11178, 28, 9}, {33012, 11187, 27, 9}, {33040, 11196, 19, 9},
-    {33060, 11205, 19, 9}, {33080, 11214, 35, 9}, {33116, 11223, 19, 9}, {33136, 11232, 19, 9}, {33156, 11241, 19, 9},
-    {33176, 11250, 19, 9}, {33196, 11264, 19, 9}, {33216, 11273, 20, 7}, {33237, 11280, 20, 8}, {33280, 11288, 26, 9},
-    {33307, 11297, 22, 9}, {33330, 11306, 22, 9}, {33353, 11315, 23, 9}, {33377, 11324, 25, 9}, {33403, 11333, 24, 7},
-    {33428, 11340, 21, 7}, {33450, 11347, 21, 8}, {33472, 11355, 23, 9}, {33496, 11364, 27, 9}, {33524, 11373, 27, 9},
-    {33552, 11382, 27, 9}, {33580, 11391, 27, 9}, {33608, 11400, 31, 9}, {33640, 11409, 23, 9}, {33664, 11418, 29, 9},
-    {33694, 11427, 30, 9}, {33725, 11436, 27, 9}, {33753, 11445, 31, 9}, {33792, 11454, 25, 9}, {33818, 11463, 4, 6},
-    {33823, 11469, 10, 7}, {33834, 11476, 12, 7}, {33847, 11483, 18, 7}, {33866, 11490, 15, 7}, {33882, 11497, 15, 7},
-    {33898, 11504, 16, 7}, {33915, 11511, 15, 7}, {33931, 11518, 11, 7}, {33943, 11525, 14, 7}, {33958, 11532, 16, 7},
-    {33975, 11539, 19, 7}, {33995, 11546, 15, 7}, {34011, 11553, 18, 7}, {34030, 11560, 11, 7}, {34042, 11567, 13, 7},
-    {34056, 11574, 19, 7}, {34076, 11581, 16, 7}, {34093, 11588, 16, 7}, {34110, 11595, 17, 7}, {34128, 11602, 16, 7},
-    {34145, 11609, 12, 7}, {34158, 11616, 15, 7}, {34174, 11623, 17, 7}, {34192, 11630, 20, 7}, {34213, 11637, 16, 7},
-    {34230, 11644, 19, 7}, {34250, 11651, 14, 7}, {34265, 11658, 14, 8}, {34280, 11666, 18, 9}, {34304, 11675, 15, 9},
-    {34320, 11684, 17, 9}, {34338, 11693, 16, 9}, {34355, 11702, 18, 9}, {34374, 11711, 17, 7}, {34392, 11718, 17, 8},
-    {34410, 11726, 21, 9}, {34432, 11735, 16, 9}, {34449, 11744, 18, 9}, {34468, 11753, 19, 9}, {34488, 11762, 3, 6},
-    {34492, 11776, 15, 7}, {34508, 11783, 9, 7}, {34518, 11790, 9, 7}, {34528, 11797, 10, 7}, {34539, 11804, 14, 7},
-    {34554, 11811, 15, 7}, {34570, 11818, 15, 7}, {34586, 11825, 14, 7}, {34601, 11832, 12, 7}, {34614, 11839, 9, 7},
-    {34624, 11846, 10, 7}, {34635, 11853, 14, 7}, {34650, 11860, 12, 7}, {34663, 11867, 12, 8}, {34676, 11875, 12, 9},
-    {34689, 11884, 19, 9}, {34709, 11893, 16, 9}, {34726, 11902, 17, 9}, {34744, 11911, 14, 9}, {34759, 11920, 9, 7},
-    {34769, 11927, 10, 7}, {34780, 11934, 11, 7}, {34792, 11941, 12, 7}, {34816, 11948, 18, 7}, {34835, 11955, 18, 8},
-    {34854, 11963, 29, 9}, {34884, 11972, 25, 9}, {34910, 11981, 22, 9}, {34933, 11990, 27, 9}, {34961, 11999, 23, 9},
-    {34985, 12008, 20, 9}, {35006, 12017, 18, 9}, {35025, 12026, 20, 9}, {35046, 12035, 16, 7}, {35063, 12042, 16, 8},
-    {35080, 12050, 27, 9}, {35108, 12059, 23, 9}, {35132, 12068, 20, 9}, {35153, 12077, 18, 9}, {35172, 12086, 3, 6},
-    {35176, 12092, 14, 7}, {35191, 12099, 10, 7}, {35202, 12106, 11, 7}, {35214, 12113, 15, 7}, {35230, 12120, 8, 7},
-    {35239, 12127, 8, 8}, {35248, 12135, 15, 9}, {35264, 12144, 12, 9}, {35277, 12153, 16, 7}, {35294, 12160, 16, 8},
-    {35328, 12168, 27, 9}, {35356, 12177, 23, 9}, {35380, 12186, 20, 9}, {35401, 12195, 28, 9}, {35430, 12204, 24, 9},
-    {35455, 12213, 21, 9}, {35477, 12222, 19, 9}, {35497, 12231, 18, 9}, {35516, 12240, 16, 7}, {35533, 12247, 17, 7},
-    {35551, 12254, 3, 6}, {35555, 12260, 9, 7}, {35565, 12267, 11, 7}, {35577, 12274, 10, 7}, {35588, 12288, 12, 7},
-    {35601, 12295, 13, 7}, {35615, 12302, 13, 8}, {35629, 12310, 13, 9}, {35643, 12319, 12, 9}, {35656, 12328, 10, 9},
-    {35667, 12337, 14, 9}, {35682, 12346, 14, 9}, {35697, 12355, 15, 9}, {35713, 12364, 15, 9}, {35729, 12373, 17, 9},
-    {35747, 12382, 18, 9}, {35766, 12391, 16, 9}, {35783, 12400, 18, 9}, {35802, 12409, 21, 9}, {35840, 12418, 20, 9},
-    {35861, 12427, 12, 9}, {35874, 12436, 20, 9}, {35895, 12445, 5, 7}, {35901, 12452, 12, 6}, {35914, 12458, 4, 7},
-    {35919, 12465, 14, 8}, {35934, 12473, 14, 9}, {35949, 12482, 14, 10}, {35964, 12492, 24, 10},
-    {35989, 12502, 18, 10}, {36008, 12512, 30, 10}, {36039, 12522, 32, 10}, {36072, 12532, 22, 10},
-    {36095, 12542, 30, 10}, {36126, 12552, 23, 10}, {36150, 12562, 28, 10}, {36179, 12572, 34, 10},
-    {36214, 12582, 27, 10}, {36242, 12592, 22, 10}, {36265, 12602, 33, 10}, {36299, 12612, 21, 10},
-    {36321, 12622, 21, 10}, {36352, 12632, 21, 10}, {36374, 12642, 27, 10}, {36402, 12652, 26, 10},
-    {36429, 12662, 13, 8}, {36443, 12670, 13, 9}, {36457, 12679, 13, 10}, {36471, 12689, 19, 10}, {36491, 12699, 9, 8},
-    {36501, 12707, 11, 9}, {36513, 12716, 16, 9}, {36530, 12725, 10, 8}, {36541, 12733, 18, 9}, {36560, 12742, 22, 9},
-    {36583, 12751, 16, 8}, {36600, 12759, 16, 9}, {36617, 12768, 29, 10}, {36647, 12778, 27, 10},
-    {36675, 12800, 29, 10}, {36705, 12810, 14, 8}, {36720, 12818, 14, 9}, {36735, 12827, 18, 10},
-    {36754, 12837, 17, 10}, {36772, 12847, 17, 10}, {36790, 12857, 18, 10}, {36809, 12867, 19, 10},
-    {36829, 12877, 20, 10}, {36864, 12887, 16, 8}, {36881, 12895, 16, 9}, {36898, 12904, 26, 10},
-    {36925, 12914, 20, 10}, {36946, 12924, 36, 10}, {36983, 12934, 24, 10}, {37008, 12944, 35, 10},
-    {37044, 12954, 23, 10}, {37068, 12964, 4, 6}, {37073, 12970, 10, 7}, {37084, 12977, 11, 7}, {37096, 12984, 17, 7},
-    {37114, 12991, 23, 7}, {37138, 12998, 22, 7}, {37161, 13005, 18, 7}, {37180, 13012, 13, 7}, {37194, 13019, 17, 7},
-    {37212, 13026, 15, 7}, {37228, 13033, 15, 7}, {37244, 13040, 13, 7}, {37258, 13047, 18, 7}, {37277, 13054, 18, 7},
-    {37296, 13061, 17, 7}, {37314, 13068, 14, 7}, {37329, 13075, 17, 7}, {37347, 13082, 18, 7}, {37376, 13089, 11, 7},
-    {37388, 13096, 14, 7}, {37403, 13103, 18, 7}, {37422, 13110, 16, 7}, {37439, 13117, 14, 7}, {37454, 13124, 18, 7},
-    {37473, 13131, 15, 7}, {37489, 13138, 18, 7}, {37508, 13145, 19, 7}, {37528, 13152, 12, 7}, {37541, 13159, 21, 7},
-    {37563, 13166, 15, 7}, {37579, 13173, 14, 7}, {37594, 13180, 3, 6}, {37598, 13186, 15, 7}, {37614, 13193, 26, 8},
-    {37641, 13201, 28, 8}, {37670, 13209, 10, 7}, {37681, 13216, 10, 7}, {37692, 13223, 12, 7}, {37705, 13230, 12, 8},
-    {37718, 13238, 17, 9}, {37736, 13247, 12, 9}, {37749, 13256, 18, 9}, {37768, 13265, 24, 9}, {37793, 13274, 16, 9},
-    {37810, 13283, 16, 9}, {37827, 13292, 17, 9}, {37845, 13312, 17, 9}, {37863, 13321, 15, 9}, {37888, 13330, 16, 9},
-    {37905, 13339, 17, 9}, {37923, 13348, 22, 9}, {37946, 13357, 23, 9}, {37970, 13366, 16, 9}, {37987, 13375, 32, 9},
-    {38020, 13384, 25, 9}, {38046, 13393, 27, 9}, {38074, 13402, 15, 9}, {38090, 13411, 16, 9}, {38107, 13420, 25, 9},
-    {38133, 13429, 26, 9}, {38160, 13438, 31, 9}, {38192, 13447, 36, 9}, {38229, 13456, 26, 9}, {38256, 13465, 13, 7},
-    {38270, 13472, 20, 7}, {38291, 13479, 16, 8}, {38308, 13487, 15, 9}, {38324, 13496, 22, 9}, {38347, 13505, 17, 9},
-    {38365, 13514, 17, 9}, {38400, 13523, 18, 9}, {38419, 13532, 24, 9}, {38444, 13541, 17, 7}, {38462, 13548, 17, 8},
-    {38480, 13556, 16, 9}, {38497, 13565, 27, 9}, {38525, 13574, 24, 9}, {38550, 13583, 18, 9}, {38569, 13592, 25, 9},
-    {38595, 13601, 19, 9}, {38615, 13610, 25, 9}, {38641, 13619, 21, 9}, {38663, 13628, 27, 9}, {38691, 13637, 24, 9},
-    {38716, 13646, 26, 9}, {38743, 13655, 25, 9}, {38769, 13664, 16, 9}, {38786, 13673, 19, 9}, {38806, 13682, 8, 7},
-    {38815, 13689, 14, 8}, {38830, 13697, 21, 8}, {38852, 13705, 4, 6}, {38857, 13711, 12, 7}, {38870, 13718, 11, 8},
-    {38882, 13726, 12, 8}, {38895, 13734, 10, 7}, {38912, 13741, 15, 8}, {38928, 13749, 15, 9}, {38944, 13758, 15, 10},
-    {38960, 13768, 20, 10}, {38981, 13778, 20, 10}, {39002, 13788, 16, 10}, {39019, 13798, 14, 10},
-    {39034, 13808, 23, 10}, {39058, 13824, 23, 10}, {39082, 13834, 24, 10}, {39107, 13844, 23, 10},
-    {39131, 13854, 22, 10}, {39154, 13864, 19, 10}, {39174, 13874, 17, 10}, {39192, 13884, 20, 10},
-    {39213, 13894, 22, 10}, {39236, 13904, 27, 10}, {39264, 13914, 28, 10}, {39293, 13924, 28, 10},
-    {39322, 13934, 29, 10}, {39352, 13944, 30, 10}, {39383, 13954, 15, 10}, {39399, 13964, 16, 10},
-    {39424, 13974, 7, 7}, {39432, 13981, 19, 8}, {39452, 13989, 19, 9}, {39472, 13998, 19, 10}, {39492, 14008, 24, 10},
-    {39517, 14018, 30, 10}, {39548, 14028, 28, 10}, {39577, 14038, 22, 10}, {39600, 14048, 19, 10},
-    {39620, 14058, 20, 10}, {39641, 14068, 17, 8}, {39659, 14076, 17, 9}, {39677, 14085, 17, 10},
-    {39695, 14095, 23, 10}, {39719, 14105, 25, 10}, {39745, 14115, 22, 10}, {39768, 14125, 18, 10},
-    {39787, 14135, 16, 10}, {39804, 14145, 25, 10}, {39830, 14155, 25, 10}, {39856, 14165, 26, 10},
-    {39883, 14175, 25, 10}, {39936, 14185, 24, 10}, {39961, 14195, 21, 10}, {39983, 14205, 19, 10},
-    {40003, 14215, 22, 10}, {40026, 14225, 23, 10}, {40050, 14235, 5, 7}, {40056, 14242, 10, 8}, {40067, 14250, 10, 9},
-    {40078, 14259, 10, 10}, {40089, 14269, 13, 10}, {40103, 14279, 13, 10}, {40117, 14289, 15, 10},
-    {40133, 14299, 10, 10}, {40144, 14309, 17, 10}, {40162, 14319, 20, 10}, {40183, 14336, 21, 10},
-    {40205, 14346, 21, 10}, {40227, 14356, 22, 10}, {40250, 14366, 10, 10}, {40261, 14376, 11, 10},
-    {40273, 14386, 5, 7}, {40279, 14393, 16, 8}, {40296, 14401, 16, 9}, {40313, 14410, 16, 10}, {40330, 14420, 21, 10},
-    {40352, 14430, 20, 10}, {40373, 14440, 25, 10}, {40399, 14450, 16, 10}, {40416, 14460, 17, 10},
-    {40434, 14470, 9, 8}, {40448, 14478, 9, 9}, {40458, 14487, 11, 10}, {40470, 14497, 17, 10}, {40488, 14507, 9, 10},
-    {40498, 14517, 10, 10}, {40509, 14527, 11, 10}, {40521, 14537, 12, 10}, {40534, 14547, 13, 10},
-    {40548, 14557, 13, 10}, {40562, 14567, 20, 10}, {40583, 14577, 20, 10}, {40604, 14587, 13, 8},
-    {40618, 14595, 13, 9}, {40632, 14604, 15, 10}, {40648, 14614, 21, 10}, {40670, 14624, 13, 10},
-    {40684, 14634, 14, 10}, {40699, 14644, 15, 10}, {40715, 14654, 16, 10}, {40732, 14664, 17, 10},
-    {40750, 14674, 17, 10}, {40768, 14684, 24, 10}, {40793, 14694, 24, 10}, {40818, 14704, 8, 7}, {40827, 14711, 20, 8},
-    {40848, 14719, 20, 9}, {40869, 14728, 20, 10}, {40890, 14738, 17, 10}, {40908, 14748, 16, 10},
-    {40925, 14758, 21, 10}, {40960, 14768, 16, 10}, {40977, 14778, 21, 10}, {40999, 14788, 19, 10},
-    {41019, 14798, 17, 10}, {41037, 14808, 13, 10}, {41051, 14818, 14, 10}, {41066, 14828, 13, 8},
-    {41080, 14836, 13, 9}, {41094, 14848, 14, 10}, {41109, 14858, 13, 10}, {41123, 14868, 15, 10},
-    {41139, 14878, 12, 10}, {41152, 14888, 6, 7}, {41159, 14895, 18, 8}, {41178, 14903, 18, 9}, {41197, 14912, 18, 10},
-    {41216, 14922, 23, 10}, {41240, 14932, 22, 10}, {41263, 14942, 27, 10}, {41291, 14952, 18, 10},
-    {41310, 14962, 19, 10}, {41330, 14972, 13, 8}, {41344, 14980, 13, 9}, {41358, 14989, 21, 10},
-    {41380, 14999, 19, 10}, {41400, 15009, 13, 10}, {41414, 15019, 12, 10}, {41427, 15029, 14, 10},
-    {41442, 15039, 14, 10}, {41472, 15049, 13, 8}, {41486, 15057, 13, 9}, {41500, 15066, 21, 10},
-    {41522, 15076, 19, 10}, {41542, 15086, 13, 10}, {41556, 15096, 12, 10}, {41569, 15106, 14, 10},
-    {41584, 15116, 14, 10}, {41599, 15126, 6, 7}, {41606, 15133, 11, 8}, {41618, 15141, 11, 9}, {41630, 15150, 11, 10},
-    {41642, 15160, 18, 10}, {41661, 15170, 19, 10}, {41681, 15180, 13, 10}, {41695, 15190, 17, 10},
-    {41713, 15200, 20, 10}, {41734, 15210, 15, 10}, {41750, 15220, 19, 10}, {41770, 15230, 22, 10},
-    {41793, 15240, 11, 10}, {41805, 15250, 12, 10}, {41818, 15260, 12, 8}, {41831, 15268, 12, 9},
-    {41844, 15277, 12, 10}, {41857, 15287, 14, 10}, {41872, 15297, 17, 10}, {41890, 15307, 18, 10},
-    {41909, 15317, 23, 10}, {41933, 15327, 24, 10}, {41958, 15337, 17, 10}, {41984, 15347, 18, 10},
-    {42003, 15360, 14, 10}, {42018, 15370, 18, 10}, {42037, 15380, 12, 10}, {42050, 15390, 13, 10},
-    {42064, 15400, 7, 7}, {42072, 15407, 18, 8}, {42091, 15415, 18, 9}, {42110, 15424, 18, 10}, {42129, 15434, 25, 10},
-    {42155, 15444, 23, 10}, {42179, 15454, 23, 10}, {42203, 15464, 29, 10}, {42233, 15474, 30, 10},
-    {42264, 15484, 27, 10}, {42292, 15494, 31, 10}, {42324, 15504, 29, 10}, {42354, 15514, 28, 10},
-    {42383, 15524, 23, 10}, {42407, 15534, 18, 10}, {42426, 15544, 19, 10}, {42446, 15554, 18, 8},
-    {42465, 15562, 18, 9}, {42496, 15571, 25, 10}, {42522, 15581, 18, 10}, {42541, 15591, 21, 10},
-    {42563, 15601, 23, 10}, {42587, 15611, 25, 10}, {42613, 15621, 23, 10}, {42637, 15631, 25, 10},
-    {42663, 15641, 5, 7}, {42669, 15648, 10, 8}, {42680, 15656, 10, 9}, {42691, 15665, 10, 10}, {42702, 15675, 16, 10},
-    {42719, 15685, 9, 10}, {42729, 15695, 14, 10}, {42744, 15705, 17, 10}, {42762, 15715, 10, 10},
-    {42773, 15725, 11, 10}, {42785, 15735, 8, 8}, {42794, 15743, 8, 9}, {42803, 15752, 13, 10}, {42817, 15762, 8, 10},
-    {42826, 15772, 7, 10}, {42834, 15782, 14, 10}, {42849, 15792, 13, 8}, {42863, 15800, 11, 6}, {42875, 15806, 18, 7},
-    {42894, 15813, 7, 8}, {42902, 15821, 14, 8}, {42917, 15829, 9, 7}, {42927, 15836, 22, 8}, {42950, 15844, 17, 8},
-    {42968, 15852, 13, 8}, {42982, 15860, 18, 8}, {43008, 15872, 18, 9}, {43027, 15881, 13, 10}, {43041, 15891, 20, 10},
-    {43062, 15901, 20, 10}, {43083, 15911, 34, 10}, {43118, 15921, 32, 10}, {43151, 15931, 8, 7}, {43160, 15938, 29, 8},
-    {43190, 15946, 16, 8}, {43207, 15954, 31, 8}, {43239, 15962, 18, 8}, {43258, 15970, 22, 8}, {43281, 15978, 16, 8},
-    {43298, 15986, 16, 8}, {43315, 15994, 14, 8}, {43330, 16002, 17, 8}, {43348, 16010, 16, 8}, {43365, 16018, 20, 8},
-    {43386, 16026, 20, 8}, {43407, 16034, 23, 8}, {43431, 16042, 26, 8}, {43458, 16050, 17, 8}, {43476, 16058, 17, 9},
-    {43494, 16067, 12, 10}, {43520, 16077, 20, 10}, {43541, 16087, 17, 10}, {43559, 16097, 18, 10},
-    {43578, 16107, 20, 10}, {43599, 16117, 26, 10}, {43626, 16127, 26, 10}, {43653, 16137, 28, 10},
-    {43682, 16147, 26, 10}, {43709, 16157, 30, 10}, {43740, 16167, 22, 10}, {43763, 16177, 7, 7}, {43771, 16184, 7, 7},
-    {43779, 16191, 27, 8}, {43807, 16199, 16, 8}, {43824, 16207, 15, 8}, {43840, 16215, 15, 9}, {43856, 16224, 17, 10},
-    {43874, 16234, 14, 10}, {43889, 16244, 16, 10}, {43906, 16254, 16, 8}, {43923, 16262, 16, 9},
-    {43940, 16271, 11, 10}, {43952, 16281, 18, 10}, {43971, 16291, 19, 10}, {43991, 16301, 20, 10},
-    {44032, 16311, 21, 10}, {44054, 16321, 11, 7}, {44066, 16328, 16, 8}, {44083, 16336, 16, 9}, {44100, 16345, 18, 10},
-    {44119, 16355, 22, 10}, {44142, 16365, 24, 10}, {44167, 16384, 17, 10}, {44185, 16394, 10, 7},
-    {44196, 16401, 17, 8}, {44214, 16409, 9, 9}, {44224, 16418, 22, 10}, {44247, 16428, 14, 10}, {44262, 16438, 22, 10},
-    {44285, 16448, 13, 10}, {44299, 16458, 15, 10}, {44315, 16468, 7, 9}, {44323, 16477, 13, 10},
-    {44337, 16487, 13, 11}, {44351, 16498, 10, 12}, {44362, 16510, 20, 12}, {44383, 16522, 15, 10},
-    {44399, 16532, 15, 11}, {44415, 16543, 17, 12}, {44433, 16555, 14, 12}, {44448, 16567, 16, 12},
-    {44465, 16579, 17, 10}, {44483, 16589, 17, 11}, {44501, 16600, 19, 12}, {44544, 16612, 23, 12},
-    {44568, 16624, 18, 12}, {44587, 16636, 20, 10}, {44608, 16646, 20, 11}, {44629, 16657, 20, 12},
-    {44650, 16669, 26, 12}, {44677, 16681, 29, 12}, {44707, 16693, 29, 10}, {44737, 16703, 29, 11},
-    {44767, 16714, 29, 12}, {44797, 16726, 35, 12}, {44833, 16738, 38, 12}, {44872, 16750, 11, 9},
-    {44884, 16759, 23, 10}, {44908, 16769, 23, 11}, {44932, 16780, 25, 12}, {44958, 16792, 29, 12},
-    {44988, 16804, 31, 12}, {45020, 16816, 24, 12}, {45056, 16828, 25, 10}, {45082, 16838, 25, 11},
-    {45108, 16849, 27, 12}, {45136, 16861, 31, 12}, {45168, 16873, 37, 12}, {45206, 16896, 40, 12},
-    {45247, 16908, 26, 12}, {45274, 16920, 9, 9}, {45284, 16929, 19, 10}, {45304, 16939, 21, 10},
-    {45326, 16949, 21, 11}, {45348, 16960, 17, 12}, {45366, 16972, 14, 12}, {45381, 16984, 14, 12},
-    {45396, 16996, 27, 12}, {45424, 17008, 29, 12}, {45454, 17020, 15, 12}, {45470, 17032, 21, 12},
-    {45492, 17044, 20, 10}, {45513, 17054, 20, 11}, {45534, 17065, 19, 12}, {45568, 17077, 26, 12},
-    {45595, 17089, 29, 12}, {45625, 17101, 28, 12}, {45654, 17113, 24, 12}, {45679, 17125, 27, 10},
-    {45707, 17135, 18, 10}, {45726, 17145, 18, 11}, {45745, 17156, 9, 12}, {45755, 17168, 29, 12},
-    {45785, 17180, 25, 12}, {45811, 17192, 19, 12}, {45831, 17204, 32, 12}, {45864, 17216, 26, 12},
-    {45891, 17228, 35, 12}, {45927, 17240, 28, 10}, {45956, 17250, 28, 11}, {45985, 17261, 23, 12},
-    {46009, 17273, 24, 12}, {46034, 17285, 25, 12}, {46080, 17297, 31, 12}, {46112, 17309, 32, 12},
-    {46145, 17321, 33, 12}, {46179, 17333, 30, 10}, {46210, 17343, 30, 11}, {46241, 17354, 25, 12},
-    {46267, 17366, 26, 12}, {46294, 17378, 27, 12}, {46322, 17390, 29, 10}, {46352, 17408, 29, 11},
-    {46382, 17419, 19, 12}, {46402, 17431, 18, 12}, {46421, 17443, 19, 12}, {46441, 17455, 21, 12},
-    {46463, 17467, 25, 10}, {46489, 17477, 26, 10}, {46516, 17487, 13, 9}, {46530, 17496, 23, 10},
-    {46554, 17506, 23, 11}, {46592, 17517, 30, 12}, {46623, 17529, 34, 12}, {46658, 17541, 20, 12},
-    {46679, 17553, 27, 12}, {46707, 17565, 22, 10}, {46730, 17575, 22, 11}, {46753, 17586, 24, 12},
-    {46778, 17598, 25, 12}, {46804, 17610, 26, 12}, {46831, 17622, 4, 6}, {46836, 17628, 8, 7}, {46845, 17635, 14, 8},
-    {46860, 17643, 12, 8}, {46873, 17651, 25, 8}, {46899, 17659, 29, 8}, {46929, 17667, 16, 8}, {46946, 17675, 17, 8},
-    {46964, 17683, 20, 8}, {46985, 17691, 9, 7}, {46995, 17698, 14, 8}, {47010, 17706, 12, 8}, {47023, 17714, 14, 8},
-    {47038, 17722, 14, 9}, {47053, 17731, 14, 10}, {47068, 17741, 13, 10}, {47082, 17751, 14, 10},
-    {47104, 17761, 24, 10}, {47129, 17771, 13, 10}, {47143, 17781, 13, 10}, {47157, 17791, 27, 10},
-    {47185, 17801, 8, 7}, {47194, 17808, 13, 8}, {47208, 17816, 13, 8}, {47222, 17824, 13, 9}, {47236, 17833, 13, 10},
-    {47250, 17843, 12, 10}, {47263, 17853, 13, 10}, {47277, 17863, 10, 10}, {47288, 17873, 14, 10},
-    {47303, 17883, 14, 10}, {47318, 17893, 16, 8}, {47335, 17901, 16, 9}, {47352, 17920, 16, 10},
-    {47369, 17930, 15, 10}, {47385, 17940, 14, 8}, {47400, 17948, 14, 9}, {47415, 17957, 16, 10}, {47432, 17967, 14, 8},
-    {47447, 17975, 14, 9}, {47462, 17984, 15, 10}, {47478, 17994, 27, 10}, {47506, 18004, 18, 8}, {47525, 18012, 18, 9},
-    {47544, 18021, 19, 10}, {47564, 18031, 18, 10}, {47583, 18041, 22, 10}, {47616, 18051, 21, 10},
-    {47638, 18061, 16, 8}, {47655, 18069, 16, 9}, {47672, 18078, 16, 10}, {47689, 18088, 16, 10},
-    {47706, 18098, 13, 10}, {47720, 18108, 15, 10}, {47736, 18118, 18, 10}, {47755, 18128, 9, 8}, {47765, 18136, 9, 9},
-    {47775, 18145, 9, 10}, {47785, 18155, 14, 10}, {47800, 18165, 20, 10}, {47821, 18175, 8, 10},
-    {47830, 18185, 10, 10}, {47841, 18195, 12, 10}, {47854, 18205, 16, 10}, {47871, 18215, 22, 10},
-    {47894, 18225, 25, 10}, {47920, 18235, 9, 8}, {47930, 18243, 7, 7}, {47938, 18250, 11, 8}, {47950, 18258, 12, 8},
-    {47963, 18266, 12, 9}, {47976, 18275, 12, 10}, {47989, 18285, 11, 10}, {48001, 18295, 9, 10},
-    {48011, 18305, 11, 10}, {48023, 18315, 17, 10}, {48041, 18325, 11, 10}, {48053, 18335, 13, 10},
-    {48067, 18345, 11, 7}, {48079, 18352, 16, 8}, {48096, 18360, 16, 9}, {48128, 18369, 14, 10}, {48143, 18379, 14, 10},
-    {48158, 18389, 13, 7}, {48172, 18396, 23, 8}, {48196, 18404, 27, 8}, {48224, 18412, 18, 8}, {48243, 18420, 18, 9},
-    {48262, 18432, 18, 10}, {48281, 18442, 17, 10}, {48299, 18452, 15, 10}, {48315, 18462, 17, 10},
-    {48333, 18472, 17, 10}, {48351, 18482, 14, 7}, {48366, 18489, 22, 8}, {48389, 18497, 16, 8}, {48406, 18505, 15, 9},
-    {48422, 18514, 11, 8}, {48434, 18522, 13, 9}, {48448, 18531, 14, 9}, {48463, 18540, 13, 9}, {48477, 18549, 12, 9},
-    {48490, 18558, 16, 9}, {48507, 18567, 18, 9}, {48526, 18576, 5, 6}, {48532, 18582, 12, 7}, {48545, 18589, 8, 8},
-    {48554, 18597, 8, 9}, {48563, 18606, 6, 10}, {48570, 18616, 17, 10}, {48588, 18626, 17, 10}, {48606, 18636, 18, 10},
-    {48640, 18646, 18, 10}, {48659, 18656, 12, 10}, {48672, 18666, 15, 10}, {48688, 18676, 19, 10},
-    {48708, 18686, 19, 10}, {48728, 18696, 13, 10}, {48742, 18706, 16, 10}, {48759, 18716, 20, 10},
-    {48780, 18726, 20, 10}, {48801, 18736, 22, 10}, {48824, 18746, 11, 10}, {48836, 18756, 17, 10},
-    {48854, 18766, 18, 10}, {48873, 18776, 7, 10}, {48881, 18786, 26, 10}, {48908, 18796, 12, 8}, {48921, 18804, 12, 9},
-    {48934, 18813, 18, 10}, {48953, 18823, 17, 10}, {48971, 18833, 13, 10}, {48985, 18843, 11, 8},
-    {48997, 18851, 11, 9}, {49009, 18860, 8, 10}, {49018, 18870, 12, 10}, {49031, 18880, 10, 10},
-    {49042, 18890, 12, 10}, {49055, 18900, 10, 10}, {49066, 18910, 11, 10}, {49078, 18920, 17, 8},
-    {49096, 18928, 17, 9}, {49114, 18944, 19, 10}, {49152, 18954, 18, 10}, {49171, 18964, 16, 10},
-    {49188, 18974, 17, 8}, {49206, 18982, 17, 8}, {49224, 18990, 13, 7}, {49238, 18997, 8, 8}, {49247, 19005, 14, 9},
-    {49262, 19014, 18, 9}, {49281, 19023, 20, 9}, {49302, 19032, 13, 9}, {49316, 19041, 15, 9}, {49332, 19050, 16, 9},
-    {49349, 19059, 17, 9}, {49367, 19068, 11, 9}, {49379, 19077, 12, 9}, {49392, 19086, 25, 9}, {49418, 19095, 13, 9},
-    {49432, 19104, 17, 9}, {49450, 19113, 27, 9}, {49478, 19122, 28, 9}, {49507, 19131, 13, 8}, {49521, 19139, 12, 9},
-    {49534, 19148, 13, 9}, {49548, 19157, 13, 9}, {49562, 19166, 6, 6}, {49569, 19172, 10, 7}, {49580, 19179, 8, 8},
-    {49589, 19187, 20, 9}, {49610, 19196, 13, 9}, {49624, 19205, 26, 9}, {49664, 19214, 28, 9}, {49693, 19223, 12, 9},
-    {49706, 19232, 23, 9}, {49730, 19241, 10, 8}, {49741, 19249, 16, 9}, {49758, 19258, 19, 9}, {49778, 19267, 28, 9},
-    {49807, 19276, 27, 9}, {49835, 19285, 17, 9}, {49853, 19294, 17, 9}, {49871, 19303, 21, 9}, {49893, 19312, 8, 8},
-    {49902, 19320, 16, 9}, {49919, 19329, 16, 9}, {49936, 19338, 13, 9}, {49950, 19347, 13, 10}, {49964, 19357, 17, 11},
-    {49982, 19368, 17, 11}, {50000, 19379, 15, 11}, {50016, 19390, 15, 11}, {50032, 19401, 17, 11},
-    {50050, 19412, 9, 8}, {50060, 19420, 15, 9}, {50076, 19429, 18, 9}, {50095, 19438, 17, 9}, {50113, 19456, 14, 9},
-    {50128, 19465, 14, 10}, {50143, 19475, 18, 11}, {50176, 19486, 16, 11}, {50193, 19497, 16, 11},
-    {50210, 19508, 14, 11}, {50225, 19519, 20, 11}, {50246, 19530, 9, 8}, {50256, 19538, 18, 9}, {50275, 19547, 17, 9},
-    {50293, 19556, 14, 9}, {50308, 19565, 14, 10}, {50323, 19575, 18, 11}, {50342, 19586, 16, 11},
-    {50359, 19597, 16, 11}, {50376, 19608, 14, 11}, {50391, 19619, 8, 8}, {50400, 19627, 16, 9}, {50417, 19636, 13, 9},
-    {50431, 19645, 13, 10}, {50445, 19655, 10, 11}, {50456, 19666, 13, 11}, {50470, 19677, 12, 11},
-    {50483, 19688, 18, 9}, {50502, 19697, 18, 10}, {50521, 19707, 17, 10}, {50539, 19717, 18, 10},
-    {50558, 19727, 23, 10}, {50582, 19737, 15, 10}, {50598, 19747, 16, 10}, {50615, 19757, 17, 10},
-    {50633, 19767, 22, 10}, {50656, 19777, 16, 10}, {50688, 19787, 17, 10}, {50706, 19797, 28, 10},
-    {50735, 19807, 25, 10}, {50761, 19817, 21, 10}, {50783, 19827, 20, 10}, {50804, 19837, 20, 10},
-    {50825, 19847, 18, 10}, {50844, 19857, 19, 10}, {50864, 19867, 20, 10}, {50885, 19877, 28, 10},
-    {50914, 19887, 26, 10}, {50941, 19897, 21, 10}, {50963, 19907, 23, 10}, {50987, 19917, 24, 10},
-    {51012, 19927, 22, 10}, {51035, 19937, 7, 8}, {51043, 19945, 9, 9}, {51053, 19954, 15, 9}, {51069, 19968, 21, 9},
-    {51091, 19977, 20, 9}, {51112, 19986, 16, 9}, {51129, 19995, 18, 9}, {51148, 20004, 17, 9}, {51166, 20013, 23, 10},
-    {51200, 20023, 26, 10}, {51227, 20033, 25, 10}, {51253, 20043, 23, 10}, {51277, 20053, 29, 10},
-    {51307, 20063, 10, 8}, {51318, 20071, 15, 9}, {51334, 20080, 21, 9}, {51356, 20089, 20, 9}, {51377, 20098, 21, 9},
-    {51399, 20107, 14, 9}, {51414, 20116, 9, 8}, {51424, 20124, 21, 9}, {51446, 20133, 18, 9}, {51465, 20142, 22, 9},
-    {51488, 20151, 19, 9}, {51508, 20160, 17, 9}, {51526, 20169, 20, 9}, {51547, 20178, 20, 9}, {51568, 20187, 22, 9},
-    {51591, 20196, 32, 9}, {51624, 20205, 33, 9}, {51658, 20214, 8, 7}, {51667, 20221, 16, 8}, {51684, 20229, 20, 8},
-    {51712, 20237, 22, 8}, {51735, 20245, 24, 8}, {51760, 20253, 8, 6}, {51769, 20259, 15, 7}, {51785, 20266, 8, 6},
-    {51794, 20272, 10, 7}, {51805, 20279, 15, 8}, {51821, 20287, 15, 9}, {51837, 20296, 23, 10}, {51861, 20306, 29, 10},
-    {51891, 20316, 15, 10}, {51907, 20326, 25, 10}, {51933, 20336, 23, 10}, {51957, 20346, 20, 10},
-    {51978, 20356, 21, 10}, {52000, 20366, 21, 10}, {52022, 20376, 24, 10}, {52047, 20386, 22, 10},
-    {52070, 20396, 30, 10}, {52101, 20406, 30, 10}, {52132, 20416, 17, 10}, {52150, 20426, 28, 10},
-    {52179, 20436, 27, 10}, {52224, 20446, 21, 10}, {52246, 20456, 22, 10}, {52269, 20466, 22, 10},
-    {52292, 20480, 17, 10}, {52310, 20490, 18, 8}, {52329, 20498, 18, 9}, {52348, 20507, 22, 10},
-    {52371, 20517, 18, 10}, {52390, 20527, 17, 8}, {52408, 20535, 17, 9}, {52426, 20544, 21, 10},
-    {52448, 20554, 17, 10}, {52466, 20564, 8, 7}, {52475, 20571, 13, 8}, {52489, 20579, 13, 9}, {52503, 20588, 13, 10},
-    {52517, 20598, 19, 10}, {52537, 20608, 14, 10}, {52552, 20618, 15, 7}, {52568, 20625, 20, 8}, {52589, 20633, 20, 9},
-    {52610, 20642, 20, 10}, {52631, 20652, 23, 10}, {52655, 20662, 22, 10}, {52678, 20672, 27, 10},
-    {52706, 20682, 8, 7}, {52715, 20689, 13, 8}, {52736, 20697, 13, 9}, {52750, 20706, 13, 10}, {52764, 20716, 12, 10},
-    {52777, 20726, 15, 10}, {52793, 20736, 31, 10}, {52825, 20746, 32, 10}, {52858, 20756, 29, 10},
-    {52888, 20766, 30, 10}, {52919, 20776, 20, 10}, {52940, 20786, 19, 10}, {52960, 20796, 20, 10},
-    {52981, 20806, 14, 10}, {52996, 20816, 17, 10}, {53014, 20826, 12, 10}, {53027, 20836, 18, 10},
-    {53046, 20846, 13, 10}, {53060, 20856, 15, 10}, {53076, 20866, 20, 10}, {53097, 20876, 19, 10},
-    {53117, 20886, 16, 10}, {53134, 20896, 19, 10}, {53154, 20906, 17, 10}, {53172, 20916, 18, 10},
-    {53191, 20926, 22, 10}, {53214, 20936, 24, 10}, {53248, 20946, 17, 10}, {53266, 20956, 9, 7}, {53276, 20963, 14, 8},
-    {53291, 20971, 14, 9}, {53306, 20992, 14, 10}, {53321, 21002, 13, 10}, {53335, 21012, 21, 10},
-    {53357, 21022, 20, 10}, {53378, 21032, 26, 10}, {53405, 21042, 15, 10}, {53421, 21052, 13, 10},
-    {53435, 21062, 19, 10}, {53455, 21072, 14, 10}, {53470, 21082, 16, 10}, {53487, 21092, 21, 10},
-    {53509, 21102, 20, 10}, {53530, 21112, 17, 10}, {53548, 21122, 16, 10}, {53565, 21132, 22, 10},
-    {53588, 21142, 23, 10}, {53612, 21152, 22, 10}, {53635, 21162, 23, 10}, {53659, 21172, 22, 10},
-    {53682, 21182, 32, 10}, {53715, 21192, 17, 10}, {53733, 21202, 20, 10}, {53760, 21212, 21, 10},
-    {53782, 21222, 23, 10}, {53806, 21232, 9, 7}, {53816, 21239, 14, 8}, {53831, 21247, 14, 9}, {53846, 21256, 14, 10},
-    {53861, 21266, 17, 10}, {53879, 21276, 20, 10}, {53900, 21286, 18, 10}, {53919, 21296, 21, 10},
-    {53941, 21306, 25, 10}, {53967, 21316, 22, 10}, {53990, 21326, 27, 10}, {54018, 21336, 30, 10},
-    {54049, 21346, 31, 10}, {54081, 21356, 20, 10}, {54102, 21366, 20, 10}, {54123, 21376, 19, 10},
-    {54143, 21386, 19, 10}, {54163, 21396, 15, 10}, {54179, 21406, 17, 7}, {54197, 21413, 22, 8}, {54220, 21421, 22, 9},
-    {54243, 21430, 22, 10}, {54272, 21440, 28, 10}, {54301, 21450, 30, 10}, {54332, 21460, 22, 10},
-    {54355, 21470, 21, 10}, {54377, 21480, 28, 10}, {54406, 21490, 27, 10}, {54434, 21504, 28, 10},
-    {54463, 21514, 22, 10}, {54486, 21524, 17, 7}, {54504, 21531, 22, 8}, {54527, 21539, 22, 9}, {54550, 21548, 22, 10},
-    {54573, 21558, 28, 10}, {54602, 21568, 21, 10}, {54624, 21578, 22, 10}, {54647, 21588, 25, 10},
-    {54673, 21598, 12, 7}, {54686, 21605, 17, 8}, {54704, 21613, 17, 9}, {54722, 21622, 17, 10}, {54740, 21632, 29, 10},
-    {54784, 21642, 25, 10}, {54810, 21652, 20, 10}, {54831, 21662, 27, 10}, {54859, 21672, 28, 10},
-    {54888, 21682, 27, 10}, {54916, 21692, 28, 10}, {54945, 21702, 16, 10}, {54962, 21712, 23, 10},
-    {54986, 21722, 18, 10}, {55005, 21732, 10, 7}, {55016, 21739, 15, 8}, {55032, 21747, 15, 9}, {55048, 21756, 15, 10},
-    {55064, 21766, 14, 10}, {55079, 21776, 25, 10}, {55105, 21786, 33, 10}, {55139, 21796, 34, 10},
-    {55174, 21806, 15, 10}, {55190, 21816, 17, 10}, {55208, 21826, 16, 10}, {55225, 21836, 21, 10},
-    {55247, 21846, 14, 7}, {55262, 21853, 19, 8}, {55296, 21861, 19, 9}, {55316, 21870, 19, 10}, {55336, 21880, 24, 10},
-    {55361, 21890, 23, 10}, {55385, 21900, 25, 10}, {55411, 21910, 25, 10}, {55437, 21920, 21, 10},
-    {55459, 21930, 32, 10}, {55492, 21940, 32, 10}, {55525, 21950, 33, 10}, {55559, 21960, 30, 10},
-    {55590, 21970, 31, 10}, {55622, 21980, 20, 10}, {55643, 21990, 23, 7}, {55667, 21997, 28, 8}, {55696, 22016, 28, 9},
-    {55725, 22025, 28, 10}, {55754, 22035, 27, 10}, {55782, 22045, 16, 7}, {55808, 22052, 20, 8}, {55829, 22060, 20, 9},
-    {55850, 22069, 20, 10}, {55871, 22079, 16, 10}, {55888, 22089, 17, 10}, {55906, 22099, 15, 10},
-    {55922, 22109, 21, 10}, {55944, 22119, 8, 7}, {55953, 22126, 13, 8}, {55967, 22134, 13, 9}, {55981, 22143, 13, 10},
-    {55995, 22153, 21, 10}, {56017, 22163, 21, 10}, {56039, 22173, 18, 10}, {56058, 22183, 16, 10},
-    {56075, 22193, 12, 10}, {56088, 22203, 19, 10}, {56108, 22213, 12, 10}, {56121, 22223, 14, 8},
-    {56136, 22231, 20, 9}, {56157, 22240, 14, 10}, {56172, 22250, 9, 6}, {56182, 22256, 16, 7}, {56199, 22263, 14, 8},
-    {56214, 22271, 16, 9}, {56231, 22280, 16, 10}, {56248, 22290, 16, 11}, {56265, 22301, 16, 11},
-    {56282, 22312, 21, 11}, {56320, 22323, 22, 11}, {56343, 22334, 16, 11}, {56360, 22345, 23, 11},
-    {56384, 22356, 15, 11}, {56400, 22367, 22, 11}, {56423, 22378, 22, 11}, {56446, 22389, 22, 11},
-    {56469, 22400, 20, 11}, {56490, 22411, 18, 11}, {56509, 22422, 20, 11}, {56530, 22433, 16, 11},
-    {56547, 22444, 18, 11}, {56566, 22455, 16, 11}, {56583, 22466, 18, 11}, {56602, 22477, 15, 11},
-    {56618, 22488, 13, 8}, {56632, 22496, 15, 9}, {56648, 22505, 15, 10}, {56664, 22528, 15, 11},
-    {56680, 22539, 15, 11}, {56696, 22550, 14, 11}, {56711, 22561, 19, 11}, {56731, 22572, 18, 11},
-    {56750, 22583, 17, 11}, {56768, 22594, 25, 11}, {56794, 22605, 21, 11}, {56832, 22616, 13, 8},
-    {56846, 22624, 17, 9}, {56864, 22633, 17, 10}, {56882, 22643, 18, 11}, {56901, 22654, 20, 9},
-    {56922, 22663, 20, 10}, {56943, 22673, 26, 11}, {56970, 22684, 25, 11}, {56996, 22695, 24, 9},
-    {57021, 22704, 24, 10}, {57046, 22714, 21, 11}, {57068, 22725, 13, 8}, {57082, 22733, 17, 9}, {57100, 22742, 14, 7},
-    {57115, 22749, 19, 8}, {57135, 22757, 15, 9}, {57151, 22766, 5, 6}, {57157, 22772, 16, 7}, {57174, 22779, 16, 8},
-    {57191, 22787, 15, 9}, {57207, 22796, 16, 9}, {57224, 22805, 11, 8}, {57236, 22813, 7, 9}, {57244, 22822, 9, 9},
-    {57254, 22831, 16, 9}, {57271, 22840, 11, 9}, {57283, 22849, 17, 9}, {57301, 22858, 11, 9}, {57313, 22867, 17, 9},
-    {57344, 22876, 18, 9}, {57363, 22885, 20, 9}, {57384, 22894, 25, 9}, {57410, 22903, 26, 9}, {57437, 22912, 28, 9},
-    {57466, 22921, 14, 9}, {57481, 22930, 16, 9}, {57498, 22939, 21, 9}, {57520, 22948, 22, 9}, {57543, 22957, 24, 9},
-    {57568, 22966, 20, 9}, {57589, 22975, 14, 9}, {57604, 22984, 20, 9}, {57625, 22993, 14, 9}, {57640, 23002, 20, 9},
-    {57661, 23011, 21, 9}, {57683, 23020, 14, 9}, {57698, 23029, 6, 6}, {57705, 23040, 17, 7}, {57723, 23047, 17, 8},
-    {57741, 23055, 16, 9}, {57758, 23064, 17, 9}, {57776, 23073, 12, 8}, {57789, 23081, 8, 9}, {57798, 23090, 12, 9},
-    {57811, 23099, 18, 9}, {57830, 23108, 16, 9}, {57856, 23117, 10, 9}, {57867, 23126, 6, 6}, {57874, 23132, 17, 7},
-    {57892, 23139, 17, 8}, {57910, 23147, 16, 9}, {57927, 23156, 17, 9}, {57945, 23165, 12, 8}, {57958, 23173, 8, 9},
-    {57967, 23182, 12, 9}, {57980, 23191, 10, 9}, {57991, 23200, 16, 9}, {58008, 23209, 18, 6}, {58027, 23215, 15, 7},
-    {58043, 23222, 15, 8}, {58059, 23230, 15, 9}, {58075, 23239, 16, 10}, {58092, 23249, 15, 6}, {58108, 23255, 19, 7},
-    {58128, 23262, 17, 8}, {58146, 23270, 17, 9}, {58164, 23279, 16, 10}, {58181, 23289, 17, 10},
-    {58199, 23299, 21, 10}, {58221, 23309, 17, 10}, {58239, 23319, 22, 10}, {58262, 23329, 24, 10},
-    {58287, 23339, 26, 10}, {58314, 23349, 27, 10}, {58342, 23359, 12, 4}, {58368, 23359, 12, 4}, {58381, 23363, 7, 4},
-    {58389, 23363, 7, 4}, {58397, 23367, 11, 5}, {58409, 23367, 11, 5}, {58421, 23372, 12, 11}, {58434, 23383, 16, 11},
-    {58451, 23394, 13, 11}, {58465, 23405, 12, 11}, {58478, 23416, 18, 11}, {58497, 23427, 11, 11},
-    {58509, 23438, 20, 11}, {58530, 23449, 7, 11}, {58538, 23460, 14, 11}, {58553, 23471, 8, 11},
-    {58562, 23482, 17, 11}, {58580, 23493, 13, 11}, {58594, 23504, 10, 11}, {58605, 23515, 20, 11},
-    {58626, 23526, 19, 11}, {58646, 23537, 20, 11}, {58667, 23552, 11, 11}, {58679, 23563, 14, 11},
-    {58694, 23574, 20, 11}, {58715, 23585, 12, 11}, {58728, 23596, 9, 11}, {58738, 23607, 9, 11},
-    {58748, 23618, 12, 11}, {58761, 23629, 15, 11}, {58777, 23640, 12, 11}, {58790, 23651, 16, 11},
-    {58807, 23662, 18, 11}, {58826, 23673, 10, 11}, {58837, 23684, 18, 11}, {58856, 23695, 13, 11},
-    {58880, 23706, 23, 11}, {58904, 23717, 13, 11}, {58918, 23728, 18, 11}, {58937, 23739, 13, 11},
-    {58951, 23750, 14, 11}, {58966, 23761, 20, 11}, {58987, 23772, 14, 11}, {59002, 23783, 10, 11},
-    {59013, 23794, 15, 11}, {59029, 23805, 8, 11}, {59038, 23816, 17, 11}, {59056, 23827, 11, 11},
-    {59068, 23838, 11, 11}, {59080, 23849, 10, 11}, {59091, 23860, 12, 11}, {59104, 23871, 10, 11},
-    {59115, 23882, 14, 11}, {59130, 23893, 14, 11}, {59145, 23904, 12, 11}, {59158, 23915, 21, 11},
-    {59180, 23926, 23, 11}, {59204, 23937, 9, 11}, {59214, 23948, 34, 11}, {59249, 23948, 35, 11},
-    {59285, 23959, 14, 12}, {59300, 23971, 32, 11}, {59333, 23982, 8, 11}, {59342, 23982, 8, 11},
-    {59351, 23982, 11, 11}, {59363, 23993, 18, 11}, {59392, 24004, 9, 7}, {59402, 24011, 23, 10},
-    {59426, 24021, 24, 10}, {59451, 24031, 22, 10}, {59474, 24041, 8, 10}, {59483, 24041, 27, 10},
-    {59511, 24041, 21, 10}, {59533, 24051, 23, 10}, {59557, 24064, 35, 10}, {59593, 24064, 9, 10},
-    {59603, 24064, 33, 10}, {59637, 24074, 35, 10}, {59673, 24074, 9, 10}, {59683, 24074, 33, 10},
-    {59717, 24074, 30, 10}, {59748, 24074, 41, 10}, {59790, 24084, 7, 10}, {59798, 24094, 6, 10},
-    {59805, 24104, 26, 10}, {59832, 24114, 25, 10}, {59858, 24114, 26, 10}, {59885, 24124, 9, 9}, {59904, 24124, 22, 9},
-    {59927, 24133, 26, 9}, {59954, 24142, 26, 10}, {59981, 24142, 9, 10}, {59991, 24142, 28, 10},
-    {60020, 24142, 36, 10}, {60057, 24142, 28, 10}, {60086, 24152, 27, 10}, {60114, 24152, 23, 10},
-    {60138, 24152, 17, 10}, {60156, 24152, 28, 10}, {60185, 24162, 25, 10}, {60211, 24162, 5, 10},
-    {60217, 24162, 29, 10}, {60247, 24162, 26, 10}, {60274, 24162, 37, 10}, {60312, 24162, 22, 10},
-    {60335, 24172, 20, 11}, {60356, 24183, 12, 10}, {60369, 24183, 5, 10}, {60375, 24183, 31, 10},
-    {60416, 24183, 22, 10}, {60439, 24183, 14, 10}, {60454, 24183, 13, 10}, {60468, 24193, 18, 11},
-    {60487, 24193, 13, 11}, {60501, 24193, 12, 11}, {60514, 24193, 22, 11}, {60537, 24204, 17, 10},
-    {60555, 24204, 36, 10}, {60592, 24204, 14, 10}, {60607, 24214, 16, 10}, {60624, 24214, 37, 10},
-    {60662, 24214, 13, 10}, {60676, 24224, 21, 10}, {60698, 24224, 41, 10}, {60740, 24224, 18, 10},
-    {60759, 24234, 24, 10}, {60784, 24234, 46, 10}, {60831, 24234, 21, 10}, {60853, 24244, 22, 10},
-    {60876, 24244, 16, 10}, {60893, 24244, 26, 10}, {60928, 24254, 32, 10}, {60961, 24254, 23, 10},
-    {60985, 24254, 33, 10}, {61019, 24264, 21, 10}, {61041, 24264, 12, 10}, {61054, 24264, 22, 10},
-    {61077, 24274, 25, 10}, {61103, 24274, 16, 10}, {61120, 24274, 26, 10}, {61147, 24284, 25, 10},
-    {61173, 24284, 16, 10}, {61190, 24284, 26, 10}, {61217, 24294, 32, 10}, {61250, 24304, 25, 10},
-    {61276, 24304, 19, 10}, {61296, 24314, 21, 10}, {61318, 24314, 15, 10}, {61334, 24324, 9, 10},
-    {61344, 24324, 14, 10}, {61359, 24324, 25, 10}, {61385, 24334, 14, 10}, {61400, 24334, 17, 10},
-    {61440, 24344, 20, 10}, {61461, 24344, 27, 10}, {61489, 24344, 14, 10}, {61504, 24354, 28, 10},
-    {61533, 24364, 28, 10}, {61562, 24364, 24, 10}, {61587, 24374, 25, 9}, {61613, 24383, 32, 10},
-    {61646, 24393, 29, 10}, {61676, 24393, 33, 10}, {61710, 24403, 16, 10}, {61727, 24403, 20, 10},
-    {61748, 24413, 7, 9}, {61756, 24413, 18, 9}, {61775, 24413, 36, 9}, {61812, 24422, 11, 9}, {61824, 24422, 23, 9},
-    {61848, 24431, 33, 9}, {61882, 24440, 27, 9}, {61910, 24449, 31, 9}, {61952, 24449, 25, 9}, {61978, 24449, 25, 9},
-    {62004, 24458, 22, 10}, {62027, 24458, 25, 10}, {62053, 24458, 16, 10}, {62070, 24468, 24, 10},
-    {62095, 24468, 16, 10}, {62112, 24468, 25, 10}, {62138, 24468, 16, 10}, {62155, 24468, 16, 10},
-    {62172, 24468, 15, 10}, {62188, 24468, 26, 10}, {62215, 24478, 23, 10}, {62239, 24478, 5, 10},
-    {62245, 24478, 29, 10}, {62275, 24478, 16, 10}, {62292, 24478, 14, 10}, {62307, 24478, 19, 10},
-    {62327, 24478, 3, 10}, {62331, 24488, 19, 9}, {62351, 24497, 24, 9}, {62376, 24497, 10, 9}, {62387, 24506, 32, 9},
-    {62420, 24506, 28, 9}, {62464, 24515, 22, 9}, {62487, 24515, 23, 9}, {62511, 24524, 22, 9}, {62534, 24524, 16, 9},
-    {62551, 24533, 20, 9}, {62572, 24533, 20, 9}, {62593, 24533, 42, 9}, {62636, 24542, 27, 9}, {62664, 24542, 18, 9},
-    {62683, 24551, 26, 9}, {62710, 24551, 13, 9}, {62724, 24551, 30, 9}, {62755, 24551, 32, 9}, {62788, 24551, 20, 9},
-    {62809, 24551, 21, 9}, {62831, 24560, 25, 9}, {62857, 24576, 12, 9}, {62870, 24585, 31, 9}, {62902, 24585, 15, 9},
-    {62918, 24585, 40, 9}, {62976, 24585, 20, 9}, {62997, 24585, 30, 9}, {63028, 24594, 33, 9}, {63062, 24594, 27, 9},
-    {63090, 24603, 36, 9}, {63127, 24603, 30, 9}, {63158, 24612, 23, 9}, {63182, 24612, 12, 9}, {63195, 24621, 18, 9},
-    {63214, 24621, 23, 9}, {63238, 24630, 31, 9}, {63270, 24630, 32, 9}, {63303, 24639, 28, 9}, {63332, 24639, 29, 9},
-    {63362, 24648, 22, 9}, {63385, 24657, 26, 9}, {63412, 24657, 35, 9}, {63448, 24666, 25, 9}, {63488, 24666, 18, 9},
-    {63507, 24666, 29, 9}, {63537, 24675, 24, 9}, {63562, 24675, 21, 9}, {63584, 24684, 29, 9}, {63614, 24684, 16, 9},
-    {63631, 24693, 28, 9}, {63660, 24702, 22, 9}, {63683, 24711, 26, 9}, {63710, 24711, 15, 9}, {63726, 24711, 27, 9},
-    {63754, 24720, 20, 10}, {63775, 24720, 15, 10}, {63791, 24720, 27, 10}, {63819, 24730, 29, 10},
-    {63849, 24740, 13, 11}, {63863, 24740, 24, 11}, {63888, 24740, 19, 11}, {63908, 24740, 13, 11},
-    {63922, 24740, 39, 11}, {63962, 24740, 22, 11}, {64000, 24751, 14, 11}, {64015, 24751, 31, 11},
-    {64047, 24751, 30, 11}, {64078, 24751, 21, 11}, {64100, 24751, 46, 11}, {64147, 24751, 31, 11},
-    {64179, 24762, 13, 11}, {64193, 24762, 23, 11}, {64217, 24762, 20, 11}, {64238, 24762, 12, 11},
-    {64251, 24762, 38, 11}, {64290, 24762, 21, 11}, {64312, 24773, 33, 10}, {64346, 24773, 24, 10},
-    {64371, 24773, 12, 10}, {64384, 24773, 26, 10}, {64411, 24773, 37, 10}, {64449, 24783, 26, 10},
-    {64476, 24793, 29, 10}, {64512, 24803, 32, 10}, {64545, 24813, 13, 11}, {64559, 24824, 14, 10},
-    {64574, 24834, 13, 10}, {64588, 24844, 8, 10}, {64597, 24844, 19, 10}, {64617, 24854, 10, 10},
-    {64628, 24854, 10, 10}, {64639, 24864, 10, 11}, {64650, 24864, 10, 11}, {64661, 24864, 11, 11},
-    {64673, 24875, 10, 10}, {64684, 24875, 10, 10}, {64695, 24885, 10, 11}, {64706, 24885, 10, 11},
-    {64717, 24885, 11, 11}, {64729, 24896, 7, 7}, {64737, 24903, 7, 8}, {64745, 24911, 7, 9}, {64753, 24920, 7, 10},
-    {64761, 24930, 7, 10}, {64769, 24940, 5, 10}, {64775, 24950, 5, 10}, {64781, 24960, 7, 10}, {64789, 24970, 11, 10},
-    {64801, 24980, 12, 10}, {64814, 24990, 8, 10}, {64823, 25000, 11, 10}, {64835, 25010, 6, 8}, {64842, 25018, 8, 9},
-    {64851, 25027, 12, 9}, {64864, 25036, 12, 9}, {64877, 25045, 12, 9}, {64890, 25054, 12, 9}, {64903, 25063, 12, 9},
-    {64916, 25072, 15, 9}, {64932, 25088, 15, 9}, {64948, 25097, 15, 9}, {64964, 25106, 15, 9}, {64980, 25115, 12, 9},
-    {64993, 25124, 14, 9}, {65008, 25133, 9, 9}, {65024, 25142, 9, 9}, {65034, 25151, 9, 9}, {65044, 25160, 14, 9},
-    {65059, 25169, 14, 9}, {65074, 25178, 13, 9}, {65088, 25187, 13, 9}, {65102, 25196, 13, 9}, {65116, 25205, 13, 9},
-    {65130, 25214, 13, 9}, {65144, 25223, 15, 9}, {65160, 25232, 10, 9}, {65171, 25241, 10, 9}, {65182, 25250, 10, 9},
-    {65193, 25259, 11, 9}, {65205, 25268, 12, 9}, {65218, 25277, 15, 9}, {65234, 25286, 8, 8}, {65243, 25294, 8, 9},
-    {65252, 25303, 8, 10}, {65261, 25313, 8, 10}, {65270, 25323, 10, 10}, {65281, 25333, 9, 10}, {65291, 25343, 9, 10},
-    {65301, 25353, 9, 10}, {65311, 25363, 12, 10}, {65324, 25373, 8, 8}, {65333, 25381, 8, 9}, {65342, 25390, 8, 10},
-    {65351, 25400, 7, 10}, {65359, 25410, 9, 10}, {65369, 25420, 10, 10}, {65380, 25430, 13, 10}, {65394, 25440, 8, 10},
-    {65403, 25450, 8, 10}, {65412, 25460, 7, 10}, {65420, 25470, 10, 10}, {65431, 25480, 14, 10},
-    {65446, 25490, 11, 10}, {65458, 25500, 12, 10}, {65471, 25510, 11, 10}, {65483, 25520, 12, 10},
-    {65496, 25530, 10, 10}, {65507, 25540, 11, 10}, {65519, 25550, 12, 10}, {65536, 25560, 11, 10},
-    {65548, 25570, 7, 8}, {65556, 25578, 7, 9}, {65564, 25587, 7, 10}, {65572, 25600, 7, 10}, {65580, 25610, 6, 10},
-    {65587, 25620, 8, 10}, {65596, 25630, 9, 10}, {65606, 25640, 11, 10}, {65618, 25650, 11, 10},
-    {65630, 25660, 12, 10}, {65643, 25670, 11, 8}, {65655, 25678, 7, 9}, {65663, 25687, 11, 9}, {65675, 25696, 8, 9},
-    {65684, 25705, 9, 9}, {65694, 25714, 8, 9}, {65703, 25723, 11, 9}, {65715, 25732, 15, 9}, {65731, 25741, 12, 9},
-    {65744, 25750, 9, 9}, {65754, 25759, 11, 9}, {65766, 25768, 9, 9}, {65776, 25777, 12, 9}, {65789, 25786, 12, 9},
-    {65802, 25795, 14, 9}, {65817, 25804, 12, 9}, {65830, 25813, 12, 9}, {65843, 25822, 14, 9}, {65858, 25831, 17, 9},
-    {65876, 25840, 11, 9}, {65888, 25849, 15, 9}, {65904, 25858, 15, 9}, {65920, 25867, 13, 9}, {65934, 25876, 15, 9},
-    {65950, 25885, 11, 9}, {65962, 25894, 12, 9}, {65975, 25903, 13, 9}, {65989, 25912, 13, 9}, {66003, 25921, 17, 9},
-    {66021, 25930, 12, 9}, {66048, 25939, 11, 8}, {66060, 25947, 15, 8}, {66076, 25955, 13, 9}, {66090, 25964, 12, 10},
-    {66103, 25974, 12, 11}, {66116, 25985, 12, 12}, {66129, 25997, 14, 12}, {66144, 26009, 17, 12},
-    {66162, 26021, 14, 12}, {66177, 26033, 17, 12}, {66195, 26045, 14, 12}, {66210, 26057, 14, 12},
-    {66225, 26069, 12, 12}, {66238, 26081, 12, 12}, {66251, 26093, 10, 12}, {66262, 26112, 12, 12},
-    {66275, 26124, 14, 12}, {66290, 26136, 17, 12}, {66308, 26148, 17, 12}, {66326, 26160, 17, 12},
-    {66344, 26172, 17, 12}, {66362, 26184, 12, 12}, {66375, 26196, 12, 12}, {66388, 26208, 12, 12},
-    {66401, 26220, 12, 12}, {66414, 26232, 12, 12}, {66427, 26244, 12, 12}, {66440, 26256, 12, 12},
-    {66453, 26268, 12, 12}, {66466, 26280, 12, 12}, {66479, 26292, 13, 12}, {66493, 26304, 11, 9},
-    {66505, 26313, 14, 10}, {66520, 26323, 10, 10}, {66531, 26333, 10, 11}, {66542, 26344, 10, 12},
-    {66560, 26356, 9, 12}, {66570, 26368, 9, 12}, {66580, 26380, 10, 12}, {66591, 26392, 11, 12}, {66603, 26404, 12, 9},
-    {66616, 26413, 11, 10}, {66628, 26423, 11, 11}, {66640, 26434, 11, 12}, {66652, 26446, 12, 12},
-    {66665, 26458, 11, 12}, {66677, 26470, 14, 12}, {66692, 26482, 11, 12}, {66704, 26494, 12, 12},
-    {66717, 26506, 9, 12}, {66727, 26518, 9, 12}, {66737, 26530, 10, 12}, {66748, 26542, 12, 12},
-    {66761, 26554, 15, 12}, {66777, 26566, 14, 12}, {66792, 26578, 9, 9}, {66802, 26587, 12, 10},
-    {66815, 26597, 18, 10}, {66834, 26607, 18, 11}, {66853, 26624, 18, 12}, {66872, 26636, 19, 12},
-    {66892, 26648, 18, 12}, {66911, 26660, 17, 10}, {66929, 26670, 17, 11}, {66947, 26681, 17, 12},
-    {66965, 26693, 18, 12}, {66984, 26705, 17, 12}, {67002, 26717, 18, 10}, {67021, 26727, 18, 11},
-    {67040, 26738, 18, 12}, {67072, 26750, 19, 12}, {67092, 26762, 18, 12}, {67111, 26774, 18, 10},
-    {67130, 26784, 18, 11}, {67149, 26795, 18, 12}, {67168, 26807, 19, 12}, {67188, 26819, 18, 12},
-    {67207, 26831, 10, 8}, {67218, 26839, 17, 9}, {67236, 26848, 13, 10}, {67250, 26858, 16, 11},
-    {67267, 26869, 19, 11}, {67287, 26880, 15, 11}, {67303, 26891, 17, 11}, {67321, 26902, 9, 8}, {67331, 26910, 9, 9},
-    {67341, 26919, 9, 10}, {67351, 26929, 8, 10}, {67360, 26939, 8, 10}, {67369, 26949, 7, 10}, {67377, 26959, 13, 10},
-    {67391, 26969, 12, 10}, {67404, 26979, 8, 8}, {67413, 26987, 18, 9}, {67432, 26996, 13, 9}, {67446, 27005, 13, 10},
-    {67460, 27015, 13, 11}, {67474, 27026, 12, 11}, {67487, 27037, 16, 11}, {67504, 27048, 13, 11},
-    {67518, 27059, 21, 11}, {67540, 27070, 19, 11}, {67584, 27081, 22, 11}, {67607, 27092, 20, 11},
-    {67628, 27103, 15, 11}, {67644, 27114, 13, 11}, {67658, 27136, 13, 11}, {67672, 27147, 17, 11},
-    {67690, 27158, 24, 11}, {67715, 27169, 7, 8}, {67723, 27177, 12, 9}, {67736, 27186, 10, 9}, {67747, 27195, 11, 9},
-    {67759, 27204, 12, 9}, {67772, 27213, 12, 9}, {67785, 27222, 23, 9}, {67809, 27231, 17, 9}, {67827, 27240, 19, 9},
-    {67847, 27249, 19, 9}, {67867, 27258, 25, 9}, {67893, 27267, 18, 9}, {67912, 27276, 8, 8}, {67921, 27284, 12, 9},
-    {67934, 27293, 12, 9}, {67947, 27302, 16, 9}, {67964, 27311, 17, 9}, {67982, 27320, 7, 8}, {67990, 27328, 7, 9},
-    {67998, 27337, 7, 10}, {68006, 27347, 12, 10}, {68019, 27357, 12, 9}, {68032, 27366, 7, 10}, {68040, 27376, 8, 9},
-    {68049, 27385, 8, 10}, {68058, 27395, 11, 10}, {68096, 27405, 29, 10}, {68126, 27405, 29, 10},
-    {68156, 27415, 21, 10}, {68178, 27425, 25, 10}, {68204, 27435, 21, 10}, {68226, 27445, 15, 10},
-    {68242, 27455, 15, 10}, {68258, 27465, 16, 10}, {68275, 27475, 25, 10}, {68301, 27485, 29, 10},
-    {68331, 27495, 28, 10}, {68360, 27505, 22, 10}, {68383, 27515, 12, 10}, {68396, 27525, 6, 9}, {68403, 27525, 6, 9},
-    {68410, 27534, 16, 10}, {68427, 27534, 7, 10}, {68435, 27544, 27, 10}, {68463, 27554, 5, 10}, {68469, 27564, 8, 10},
-    {68478, 27574, 15, 10}, {68494, 27574, 11, 10}, {68506, 27584, 11, 10}, {68518, 27594, 10, 10},
-    {68529, 27604, 14, 10}, {68544, 27614, 25, 10}, {68570, 27624, 25, 10}, {68608, 27634, 29, 10},
-    {68638, 27648, 33, 10}, {68672, 27658, 35, 10}, {68708, 27668, 13, 10}, {68722, 27678, 23, 10},
-    {68746, 27688, 23, 10}, {68770, 27698, 18, 10}, {68789, 27708, 13, 11}, {68803, 27719, 10, 13},
-    {68814, 27732, 7, 13}, {68822, 27745, 10, 13}, {68833, 27758, 13, 13}, {68847, 27771, 11, 13},
-    {68859, 27784, 12, 13}, {68872, 27797, 10, 13}, {68883, 27810, 14, 10}, {68898, 27820, 17, 10},
-    {68916, 27830, 16, 10}, {68933, 27840, 17, 10}, {68951, 27850, 20, 10}, {68972, 27860, 11, 10},
-    {68984, 27870, 12, 10}, {68997, 27880, 12, 10}, {69010, 27890, 18, 10}, {69029, 27900, 14, 10},
-    {69044, 27910, 12, 10}, {69057, 27920, 15, 10}, {69073, 27930, 7, 10}, {69081, 27940, 18, 10},
-    {69100, 27950, 13, 10}, {69120, 27960, 13, 10}, {69134, 27970, 12, 10}, {69147, 27980, 9, 10},
-    {69157, 27990, 16, 10}, {69174, 28000, 26, 10}, {69201, 28010, 21, 10}, {69223, 28020, 22, 10},
-    {69246, 28030, 18, 10}, {69265, 28040, 11, 12}, {69277, 28052, 11, 12}, {69289, 28064, 20, 11},
-    {69310, 28075, 17, 11}, {69328, 28086, 14, 11}, {69343, 28097, 18, 11}, {69362, 28108, 27, 11},
-    {69390, 28119, 22, 11}, {69413, 28119, 4, 11}, {69418, 28130, 20, 11}, {69439, 28141, 25, 11},
-    {69465, 28160, 26, 11}, {69492, 28171, 19, 11}, {69512, 28182, 18, 11}, {69531, 28193, 27, 11},
-    {69559, 28204, 17, 11}, {69577, 28215, 14, 11}, {69592, 28226, 9, 10}, {69602, 28236, 17, 11},
-    {69632, 28247, 28, 11}, {69661, 28258, 15, 11}, {69677, 28269, 17, 11}, {69695, 28280, 19, 11},
-    {69715, 28291, 10, 11}, {69726, 28302, 17, 11}, {69744, 28313, 15, 11}, {69760, 28324, 14, 10},
-    {69775, 28334, 8, 10}, {69784, 28344, 16, 10}, {69801, 28354, 17, 10}, {69819, 28364, 20, 10},
-    {69840, 28374, 15, 10}, {69856, 28384, 15, 10}, {69872, 28394, 14, 10}, {69887, 28404, 15, 10},
-    {69903, 28414, 17, 10}, {69921, 28424, 18, 10}, {69940, 28434, 14, 10}, {69955, 28444, 15, 10},
-    {69971, 28454, 16, 10}, {69988, 28464, 14, 10}, {70003, 28474, 16, 10}, {70020, 28484, 16, 10},
-    {70037, 28494, 21, 10}, {70059, 28504, 13, 10}, {70073, 28514, 15, 10}, {70089, 28524, 12, 10},
-    {70102, 28534, 23, 10}, {70126, 28544, 14, 10}, {70144, 28554, 15, 10}, {70160, 28564, 15, 10},
-    {70176, 28574, 18, 10}, {70195, 28584, 17, 10}, {70213, 28594, 21, 10}, {70235, 28604, 15, 10},
-    {70251, 28614, 21, 10}, {70273, 28624, 20, 10}, {70294, 28634, 12, 10}, {70307, 28644, 15, 10},
-    {70323, 28654, 20, 10}, {70344, 28672, 15, 10}, {70360, 28682, 17, 10}, {70378, 28692, 21, 10},
-    {70400, 28702, 18, 10}, {70419, 28712, 14, 10}, {70434, 28722, 14, 10}, {70449, 28732, 20, 10},
-    {70470, 28742, 29, 10}, {70500, 28752, 21, 10}, {70522, 28762, 16, 10}, {70539, 28772, 27, 10},
-    {70567, 28782, 22, 10}, {70590, 28792, 30, 10}, {70621, 28802, 14, 10}, {70656, 28812, 20, 10},
-    {70677, 28822, 19, 10}, {70697, 28832, 17, 10}, {70715, 28842, 13, 10}, {70729, 28852, 22, 10},
-    {70752, 28862, 22, 10}, {70775, 28872, 23, 10}, {70799, 28882, 25, 10}, {70825, 28892, 21, 10},
-    {70847, 28902, 29, 10}, {70877, 28912, 17, 10}, {70895, 28922, 11, 10}, {70907, 28932, 15, 10},
-    {70923, 28942, 15, 10}, {70939, 28952, 15, 10}, {70955, 28962, 13, 10}, {70969, 28972, 11, 10},
-    {70981, 28982, 10, 10}, {70992, 28992, 17, 10}, {71010, 29002, 18, 10}, {71029, 29012, 26, 10},
-    {71056, 29022, 18, 10}, {71075, 29032, 7, 7}, {71083, 29039, 14, 8}, {71098, 29047, 9, 9}, {71108, 29056, 13, 9},
-    {71122, 29065, 13, 10}, {71136, 29075, 13, 11}, {71150, 29086, 14, 12}, {71168, 29098, 20, 12},
-    {71189, 29110, 23, 12}, {71213, 29122, 12, 12}, {71226, 29134, 13, 12}, {71240, 29146, 15, 12},
-    {71256, 29158, 12, 9}, {71269, 29167, 16, 10}, {71286, 29184, 15, 10}, {71302, 29194, 18, 11},
-    {71321, 29205, 19, 11}, {71341, 29216, 19, 12}, {71361, 29228, 13, 13}, {71375, 29241, 15, 13},
-    {71391, 29254, 12, 13}, {71404, 29267, 13, 13}, {71418, 29280, 17, 13}, {71436, 29293, 16, 13},
-    {71453, 29306, 15, 13}, {71469, 29319, 15, 13}, {71485, 29332, 14, 13}, {71500, 29345, 20, 11},
-    {71521, 29356, 20, 12}, {71542, 29368, 19, 13}, {71562, 29381, 18, 13}, {71581, 29394, 19, 13},
-    {71601, 29407, 14, 13}, {71616, 29420, 20, 11}, {71637, 29431, 20, 12}, {71658, 29443, 17, 13},
-    {71680, 29456, 15, 13}, {71696, 29469, 14, 10}, {71711, 29479, 19, 11}, {71731, 29490, 19, 11},
-    {71751, 29501, 7, 9}, {71759, 29510, 7, 9}, {71767, 29519, 21, 10}, {71789, 29529, 14, 10}, {71804, 29539, 12, 10},
-    {71817, 29549, 12, 11}, {71830, 29560, 11, 12}, {71842, 29572, 14, 12}, {71857, 29584, 13, 12},
-    {71871, 29596, 14, 9}, {71886, 29605, 15, 9}, {71902, 29614, 13, 10}, {71916, 29624, 14, 11},
-    {71931, 29635, 16, 11}, {71948, 29646, 14, 11}, {71963, 29657, 17, 11}, {71981, 29668, 17, 12},
-    {71999, 29680, 18, 13}, {72018, 29696, 18, 13}, {72037, 29709, 15, 10}, {72053, 29719, 14, 11},
-    {72068, 29730, 14, 12}, {72083, 29742, 10, 13}, {72094, 29755, 10, 13}, {72105, 29768, 9, 13},
-    {72115, 29781, 13, 13}, {72129, 29794, 11, 13}, {72141, 29807, 14, 9}, {72156, 29816, 18, 10},
-    {72192, 29826, 18, 11}, {72211, 29837, 15, 12}, {72227, 29849, 17, 12}, {72245, 29861, 14, 9},
-    {72260, 29870, 17, 10}, {72278, 29880, 17, 11}, {72296, 29891, 14, 12}, {72311, 29903, 18, 12},
-    {72330, 29915, 14, 12}, {72345, 29927, 17, 12}, {72363, 29939, 12, 12}, {72376, 29951, 15, 8},
-    {72392, 29959, 21, 9}, {72414, 29968, 21, 10}, {72436, 29978, 21, 10}, {72458, 29988, 20, 10},
-    {72479, 29998, 20, 9}, {72500, 30007, 18, 10}, {72519, 30017, 18, 11}, {72538, 30028, 12, 12},
-    {72551, 30040, 14, 12}, {72566, 30052, 14, 12}, {72581, 30064, 17, 10}, {72599, 30074, 17, 11},
-    {72617, 30085, 15, 12}, {72633, 30097, 22, 12}, {72656, 30109, 18, 12}, {72675, 30121, 18, 12},
-    {72704, 30133, 20, 12}, {72725, 30145, 27, 9}, {72753, 30154, 32, 10}, {72786, 30164, 35, 11},
-    {72822, 30175, 26, 10}, {72849, 30185, 33, 10}, {72883, 30208, 27, 11}, {72911, 30219, 27, 11},
-    {72939, 30230, 19, 10}, {72959, 30240, 17, 11}, {72977, 30251, 16, 11}, {72994, 30262, 16, 12},
-    {73011, 30274, 16, 13}, {73028, 30287, 18, 13}, {73047, 30300, 14, 13}, {73062, 30313, 20, 11},
-    {73083, 30324, 20, 11}, {73104, 30335, 18, 11}, {73123, 30346, 16, 11}, {73140, 30357, 20, 11},
-    {73161, 30368, 20, 11}, {73182, 30379, 19, 11}, {73216, 30390, 19, 8}, {73236, 30398, 16, 9},
-    {73253, 30407, 10, 10}, {73264, 30417, 15, 10}, {73280, 30427, 16, 9}, {73297, 30436, 6, 10}, {73304, 30446, 5, 10},
-    {73310, 30456, 14, 9}, {73325, 30465, 16, 10}, {73342, 30475, 17, 10}, {73360, 30485, 20, 10},
-    {73381, 30495, 20, 10}, {73402, 30505, 20, 10}, {73423, 30515, 21, 10}, {73445, 30525, 18, 10},
-    {73464, 30535, 20, 10}, {73485, 30545, 21, 10}, {73507, 30555, 19, 10}, {73527, 30565, 25, 8},
-    {73553, 30573, 20, 9}, {73574, 30582, 13, 10}, {73588, 30592, 16, 10}, {73605, 30602, 15, 10},
-    {73621, 30612, 26, 9}, {73648, 30621, 18, 8}, {73667, 30629, 18, 9}, {73686, 30638, 13, 9}, {73700, 30647, 13, 10},
-    {73728, 30657, 12, 10}, {73741, 30667, 14, 10}, {73756, 30677, 12, 11}, {73769, 30688, 14, 11},
-    {73784, 30699, 18, 10}, {73803, 30720, 18, 10}, {73822, 30730, 19, 9}, {73842, 30739, 14, 11},
-    {73857, 30750, 15, 10}, {73873, 30750, 22, 10}, {73896, 30750, 30, 10}, {73927, 30750, 13, 10},
-    {73941, 30750, 38, 10}, {73980, 30750, 33, 10}, {74014, 30760, 17, 10}, {74032, 30760, 24, 10},
-    {74057, 30760, 8, 10}, {74066, 30770, 17, 10}, {74084, 30770, 24, 10}, {74109, 30780, 12, 10},
-    {74122, 30780, 19, 10}, {74142, 30790, 9, 9}, {74152, 30790, 6, 9}, {74159, 30799, 10, 9}, {74170, 30799, 13, 9},
-    {74184, 30808, 8, 10}, {74193, 30818, 8, 10}, {74202, 30828, 11, 10}, {74214, 30838, 9, 10}, {74224, 30848, 10, 10},
-    {74240, 30858, 13, 10}, {74254, 30868, 14, 10}, {74269, 30878, 13, 10}, {74283, 30888, 12, 10},
-    {74296, 30898, 9, 10}, {74306, 30908, 8, 10}, {74315, 30918, 31, 11}, {74347, 30929, 12, 14},
-    {74360, 30943, 13, 14}, {74374, 30957, 16, 12}, {74391, 30969, 17, 11}, {74409, 30980, 11, 11},
-    {74421, 30991, 16, 11}, {74438, 31002, 17, 11}, {74456, 31013, 25, 11}, {74482, 31024, 8, 11},
-    {74491, 31035, 8, 11}, {74500, 31046, 18, 11}, {74519, 31057, 21, 11}, {74541, 31068, 25, 11},
-    {74567, 31079, 23, 11}, {74591, 31090, 19, 11}, {74611, 31101, 21, 11}, {74633, 31112, 23, 11},
-    {74657, 31123, 21, 11}, {74679, 31134, 15, 11}, {74695, 31145, 25, 11}, {74721, 31156, 15, 11},
-    {74752, 31167, 22, 11}, {74775, 31178, 24, 11}, {74800, 31189, 22, 9}, {74823, 31189, 40, 9},
-    {74864, 31198, 19, 10}, {74884, 31208, 8, 4}, {74893, 31208, 8, 4}, {74902, 31212, 10, 5}, {74913, 31212, 7, 5},
-    {74921, 31217, 13, 6}, {74935, 31223, 9, 6}, {74945, 31232, 18, 7}, {74964, 31239, 19, 7}, {74984, 31246, 18, 7},
-    {75003, 31253, 16, 7}, {75020, 31253, 18, 7}, {75039, 31253, 22, 7}, {75062, 31253, 19, 7}, {75082, 31260, 9, 7},
-    {75092, 31260, 20, 7}, {75113, 31260, 15, 7}, {75129, 31260, 19, 7}, {75149, 31260, 18, 7}, {75168, 31260, 12, 7},
-    {75181, 31267, 13, 7}, {75195, 31274, 21, 8}, {75217, 31282, 23, 8}, {75264, 31290, 23, 8}, {75288, 31298, 23, 8},
-    {75312, 31306, 15, 6}, {75328, 31312, 6, 7}, {75335, 31319, 6, 6}, {75342, 31319, 5, 6}, {75348, 31325, 4, 6},
-    {75353, 31325, 10, 6}, {75364, 31325, 7, 6}, {75372, 31331, 11, 7}, {75384, 31338, 20, 8}, {75405, 31346, 20, 8},
-    {75426, 31354, 20, 8}, {75447, 31362, 20, 8}, {75468, 31370, 11, 8}, {75480, 31378, 10, 8}, {75491, 31386, 21, 8},
-    {75513, 31394, 21, 8}, {75535, 31402, 10, 8}, {75546, 31410, 24, 8}, {75571, 31418, 24, 8}, {75596, 31426, 21, 8},
-    {75618, 31434, 25, 8}, {75644, 31442, 11, 8}, {75656, 31450, 11, 8}, {75668, 31458, 14, 8}, {75683, 31466, 17, 8},
-    {75701, 31474, 17, 8}, {75719, 31482, 17, 8}, {75737, 31490, 13, 7}, {75751, 31490, 5, 7}, {75776, 31497, 19, 8},
-    {75796, 31497, 28, 8}, {75825, 31497, 27, 8}, {75853, 31497, 14, 8}, {75868, 31497, 28, 8}, {75897, 31497, 25, 8},
-    {75923, 31505, 13, 8}, {75937, 31505, 14, 8}, {75952, 31505, 19, 8}, {75972, 31505, 19, 8}, {75992, 31513, 12, 8},
-    {76005, 31513, 18, 8}, {76024, 31513, 23, 8}, {76048, 31521, 14, 8}, {76063, 31521, 16, 8}, {76080, 31521, 21, 8},
-    {76102, 31521, 14, 8}, {76117, 31529, 12, 8}, {76130, 31537, 10, 8}, {76141, 31545, 16, 8}, {76158, 31545, 18, 8},
-    {76177, 31545, 18, 8}, {76196, 31553, 21, 8}, {76218, 31553, 22, 8}, {76241, 31553, 22, 8}, {76288, 31561, 21, 8},
-    {76310, 31569, 11, 8}, {76322, 31577, 17, 8}, {76340, 31577, 26, 8}, {76367, 31577, 25, 8}, {76393, 31577, 19, 8},
-    {76413, 31577, 26, 8}, {76440, 31577, 23, 8}, {76464, 31585, 14, 8}, {76479, 31585, 18, 8}, {76498, 31593, 14, 8},
-    {76513, 31601, 13, 8}, {76527, 31601, 29, 8}, {76557, 31601, 19, 8}, {76577, 31609, 27, 8}, {76605, 31617, 26, 8},
-    {76632, 31625, 26, 8}, {76659, 31625, 35, 8}, {76695, 31633, 10, 8}, {76706, 31633, 11, 8}, {76718, 31633, 11, 8},
-    {76730, 31633, 16, 8}, {76747, 31633, 22, 8}, {76770, 31633, 13, 8}, {76800, 31633, 43, 8}, {76844, 31633, 12, 8},
-    {76857, 31633, 11, 8}, {76869, 31633, 16, 8}, {76886, 31641, 13, 8}, {76900, 31649, 16, 8}, {76917, 31649, 16, 8},
-    {76934, 31657, 25, 8}, {76960, 31665, 18, 8}, {76979, 31665, 21, 8}, {77001, 31673, 23, 8}, {77025, 31673, 25, 8},
-    {77051, 31681, 15, 8}, {77067, 31689, 20, 8}, {77088, 31689, 14, 8}, {77103, 31697, 5, 7}, {77109, 31704, 20, 8},
-    {77130, 31704, 31, 8}, {77162, 31704, 3, 8}, {77166, 31704, 26, 8}, {77193, 31704, 32, 8}, {77226, 31704, 9, 8},
-    {77236, 31712, 28, 8}, {77265, 31712, 38, 8}, {77312, 31712, 11, 8}, {77324, 31712, 26, 8}, {77351, 31712, 11, 8},
-    {77363, 31712, 13, 8}, {77377, 31720, 10, 8}, {77388, 31728, 13, 7}, {77402, 31728, 5, 7}, {77408, 31744, 10, 8},
-    {77419, 31744, 29, 8}, {77449, 31744, 25, 8}, {77475, 31744, 21, 8}, {77497, 31744, 14, 8}, {77512, 31744, 41, 8},
-    {77554, 31744, 21, 8}, {77576, 31744, 11, 8}, {77588, 31744, 16, 8}, {77605, 31752, 10, 8}, {77616, 31752, 29, 8},
-    {77646, 31752, 25, 8}, {77672, 31752, 21, 8}, {77694, 31752, 14, 8}, {77709, 31752, 41, 8}, {77751, 31752, 21, 8},
-    {77773, 31752, 11, 8}, {77785, 31752, 16, 8}, {77802, 31760, 11, 8}, {77824, 31760, 12, 8}, {77837, 31760, 26, 8},
-    {77864, 31760, 24, 8}, {77889, 31760, 22, 8}, {77912, 31760, 12, 8}, {77925, 31760, 17, 8}, {77943, 31768, 15, 8},
-    {77959, 31768, 17, 8}, {77977, 31768, 30, 8}, {78008, 31768, 12, 8}, {78021, 31768, 16, 8}, {78038, 31768, 29, 8},
-    {78068, 31768, 26, 8}, {78095, 31768, 16, 8}, {78112, 31768, 21, 8}, {78134, 31776, 14, 8}, {78149, 31776, 16, 8},
-    {78166, 31776, 20, 8}, {78187, 31776, 30, 8}, {78218, 31776, 22, 8}, {78241, 31776, 25, 8}, {78267, 31776, 16, 8},
-    {78284, 31776, 20, 8}, {78305, 31784, 11, 8}, {78317, 31784, 12, 8}, {78336, 31784, 17, 8}, {78354, 31784, 26, 8},
-    {78381, 31784, 30, 8}, {78412, 31784, 22, 8}, {78435, 31784, 12, 8}, {78448, 31784, 17, 8}, {78466, 31792, 9, 8},
-    {78476, 31792, 10, 8}, {78487, 31792, 15, 8}, {78503, 31792, 24, 8}, {78528, 31792, 16, 8}, {78545, 31792, 20, 8},
-    {78566, 31792, 10, 8}, {78577, 31792, 15, 8}, {78593, 31800, 12, 8}, {78606, 31800, 13, 8}, {78620, 31800, 31, 8},
-    {78652, 31800, 24, 8}, {78677, 31800, 23, 8}, {78701, 31800, 13, 8}, {78715, 31800, 18, 8}, {78734, 31808, 11, 8},
-    {78746, 31808, 12, 8}, {78759, 31808, 22, 8}, {78782, 31808, 12, 8}, {78795, 31808, 17, 8}, {78813, 31816, 4, 8},
-    {78818, 31816, 4, 8}, {78823, 31824, 16, 8}, {78848, 31824, 12, 8}, {78861, 31832, 16, 8}, {78878, 31832, 12, 8},
-    {78891, 31840, 11, 8}, {78903, 31848, 11, 8}, {78915, 31856, 8, 8}, {78924, 31856, 27, 8}, {78952, 31856, 9, 8},
-    {78962, 31856, 21, 8}, {78984, 31856, 9, 8}, {78994, 31864, 8, 8}, {79003, 31864, 25, 8}, {79029, 31864, 9, 8},
-    {79039, 31872, 9, 8}, {79049, 31872, 30, 8}, {79080, 31872, 10, 8}, {79091, 31880, 15, 8}, {79107, 31880, 10, 8},
-    {79118, 31888, 17, 8}, {79136, 31888, 10, 8}, {79147, 31888, 23, 8}, {79171, 31888, 19, 8}, {79191, 31888, 23, 8},
-    {79215, 31896, 17, 8}, {79233, 31896, 10, 8}, {79244, 31896, 23, 8}, {79268, 31896, 19, 8}, {79288, 31896, 23, 8},
-    {79312, 31904, 10, 8}, {79323, 31904, 11, 8}, {79335, 31904, 11, 8}, {79360, 31912, 17, 8}, {79378, 31912, 19, 8},
-    {79398, 31912, 19, 8}, {79418, 31920, 9, 8}, {79428, 31920, 10, 8}, {79439, 31920, 10, 8}, {79450, 31928, 16, 8},
-    {79467, 31928, 18, 8}, {79486, 31928, 18, 8}, {79505, 31936, 5, 8}, {79511, 31936, 25, 8}, {79537, 31936, 11, 8},
-    {79549, 31936, 6, 8}, {79556, 31944, 5, 8}, {79562, 31944, 26, 8}, {79589, 31944, 11, 8}, {79601, 31944, 16, 8},
-    {79618, 31944, 6, 8}, {79625, 31952, 10, 8}, {79636, 31952, 18, 8}, {79655, 31952, 11, 8}, {79667, 31960, 19, 8},
-    {79687, 31960, 13, 8}, {79701, 31960, 14, 8}, {79716, 31968, 44, 8}, {79761, 31968, 42, 8}, {79804, 31976, 5, 8},
-    {79810, 31976, 47, 8}, {79872, 31984, 25, 8}, {79898, 31992, 26, 8}, {79925, 32000, 13, 8}, {79939, 32008, 21, 8},
-    {79961, 32016, 21, 8}, {79983, 32024, 16, 8}, {80000, 32032, 17, 8}, {80018, 32040, 19, 8}, {80038, 32048, 10, 8},
-    {80049, 32056, 26, 9}, {80076, 32065, 16, 9}, {80093, 32074, 20, 9}, {80114, 32083, 12, 8}, {80127, 32091, 23, 8},
-    {80151, 32091, 19, 8}, {80171, 32091, 30, 8}, {80202, 32099, 13, 8}, {80216, 32107, 22, 8}, {80239, 32115, 22, 8},
-    {80262, 32123, 22, 8}, {80285, 32131, 22, 8}, {80308, 32139, 24, 8}, {80333, 32147, 24, 8}, {80358, 32155, 19, 8},
-    {80384, 32163, 18, 8}, {80403, 32171, 25, 8}, {80429, 32171, 20, 8}, {80450, 32179, 20, 8}, {80471, 32187, 14, 8},
-    {80486, 32187, 8, 8}, {80495, 32195, 9, 8}, {80505, 32203, 12, 8}, {80518, 32203, 7, 8}, {80526, 32211, 14, 8},
-    {80541, 32211, 8, 8}, {80550, 32219, 21, 8}, {80572, 32219, 17, 8}, {80590, 32227, 18, 8}, {80609, 32227, 17, 8},
-    {80627, 32235, 19, 8}, {80647, 32235, 12, 8}, {80660, 32235, 18, 8}, {80679, 32243, 13, 8}, {80693, 32243, 6, 8},
-    {80700, 32243, 10, 8}, {80711, 32256, 27, 8}, {80739, 32256, 20, 8}, {80760, 32256, 26, 8}, {80787, 32264, 25, 8},
-    {80813, 32264, 18, 8}, {80832, 32264, 24, 8}, {80857, 32272, 19, 8}, {80877, 32280, 15, 8}, {80896, 32288, 17, 8},
-    {80914, 32296, 11, 8}, {80926, 32304, 15, 8}, {80942, 32312, 22, 8}, {80965, 32320, 22, 8}, {80988, 32328, 10, 8},
-    {80999, 32336, 15, 8}, {81015, 32344, 17, 8}, {81033, 32352, 19, 8}, {81053, 32352, 13, 8}, {81067, 32360, 10, 8},
-    {81078, 32360, 4, 8}, {81083, 32368, 15, 8}, {81099, 32376, 18, 8}, {81118, 32384, 17, 8}, {81136, 32392, 18, 8},
-    {81155, 32392, 12, 8}, {81168, 32400, 17, 8}, {81186, 32400, 11, 8}, {81198, 32408, 18, 8}, {81217, 32408, 11, 8},
-    {81229, 32416, 20, 7}, {81250, 32416, 5, 7}, {81256, 32423, 4, 8}, {81261, 32423, 15, 8}, {81277, 32423, 41, 8},
-    {81319, 32423, 39, 8}, {81359, 32423, 10, 8}, {81370, 32423, 12, 8}, {81383, 32431, 17, 9}, {81408, 32431, 19, 9},
-    {81428, 32431, 37, 9}, {81466, 32431, 17, 9}, {81484, 32431, 19, 9}, {81504, 32431, 19, 9}, {81524, 32431, 18, 9},
-    {81543, 32440, 5, 9}, {81549, 32440, 10, 9}, {81560, 32440, 21, 9}, {81582, 32440, 9, 9}, {81592, 32440, 12, 9},
-    {81605, 32440, 20, 9}, {81626, 32440, 18, 9}, {81645, 32449, 5, 9}, {81651, 32449, 11, 9}, {81663, 32449, 3, 9},
-    {81667, 32458, 19, 9}, {81687, 32458, 25, 9}, {81713, 32458, 20, 9}, {81734, 32467, 7, 9}, {81742, 32467, 13, 9},
-    {81756, 32467, 23, 9}, {81780, 32467, 11, 9}, {81792, 32467, 23, 9}, {81816, 32467, 13, 9}, {81830, 32467, 20, 9},
-    {81851, 32476, 13, 9}, {81865, 32476, 19, 9}, {81885, 32476, 14, 9}, {81900, 32485, 14, 9}, {81920, 32485, 20, 9},
-    {81941, 32485, 15, 9}, {81957, 32494, 14, 9}, {81972, 32494, 20, 9}, {81993, 32494, 30, 9}, {82024, 32503, 5, 9},
-    {82030, 32503, 15, 9}, {82046, 32512, 4, 9}, {82051, 32521, 9, 9}, {82061, 32521, 10, 9}, {82072, 32530, 9, 8},
-    {82082, 32530, 10, 8}, {82093, 32530, 21, 8}, {82115, 32530, 29, 8}, {82145, 32530, 10, 8}, {82156, 32530, 15, 8},
-    {82172, 32538, 15, 8}, {82188, 32538, 16, 8}, {82205, 32538, 24, 8}, {82230, 32538, 18, 8}, {82249, 32546, 7, 8},
-    {82257, 32546, 7, 8}, {82265, 32554, 12, 8}, {82278, 32554, 13, 8}, {82292, 32554, 24, 8}, {82317, 32554, 13, 8},
-    {82331, 32554, 18, 8}, {82350, 32562, 16, 8}, {82367, 32570, 15, 8}, {82383, 32578, 12, 8}, {82396, 32578, 13, 8},
-    {82410, 32578, 18, 8}, {82432, 32586, 12, 8}, {82445, 32586, 13, 8}, {82459, 32586, 18, 8}, {82478, 32594, 9, 8},
-    {82488, 32602, 10, 8}, {82499, 32602, 11, 8}, {82511, 32610, 16, 8}, {82528, 32618, 8, 8}, {82537, 32618, 8, 8},
-    {82546, 32626, 13, 8}, {82560, 32634, 31, 8}, {82592, 32634, 28, 8}, {82621, 32634, 27, 8}, {82649, 32634, 22, 8},
-    {82672, 32634, 16, 8}, {82689, 32642, 6, 6}, {82696, 32648, 18, 6}, {82715, 32654, 20, 6}, {82736, 32660, 6, 4},
-    {82743, 32660, 6, 4}, {82750, 32660, 6, 4}, {82757, 32664, 11, 5}, {82769, 32669, 10, 5}, {82780, 32674, 11, 5},
-    {82792, 32679, 7, 6}, {82800, 32685, 14, 7}, {82815, 32692, 8, 8}, {82824, 32700, 11, 9}, {82836, 32709, 18, 9},
-    {82855, 32718, 9, 8}, {82865, 32726, 9, 9}, {82875, 32735, 9, 9}, {82885, 32744, 8, 9}, {82894, 32753, 6, 9},
-    {82901, 32768, 21, 9}, {82923, 32777, 7, 8}, {82944, 32785, 15, 9}, {82960, 32794, 18, 7}, {82979, 32801, 18, 8},
-    {82998, 32809, 19, 9}, {83018, 32818, 23, 9}, {83042, 32827, 13, 8}, {83056, 32835, 12, 9}, {83069, 32844, 11, 9},
-    {83081, 32853, 27, 9}, {83109, 32862, 9, 9}, {83119, 32871, 18, 9}, {83138, 32880, 17, 9}, {83156, 32889, 30, 9},
-    {83187, 32898, 21, 9}, {83209, 32907, 16, 6}, {83226, 32913, 18, 7}, {83245, 32920, 17, 8}, {83263, 32928, 17, 9},
-    {83281, 32937, 22, 9}, {83304, 32946, 22, 9}, {83327, 32955, 17, 8}, {83345, 32963, 17, 9}, {83363, 32972, 18, 9},
-    {83382, 32981, 23, 7}, {83406, 32988, 10, 8}, {83417, 32996, 12, 9}, {83430, 33005, 15, 9}, {83456, 33014, 14, 9},
-    {83471, 33023, 24, 9}, {83496, 33032, 10, 6}, {83507, 33038, 13, 7}, {83521, 33045, 8, 8}, {83530, 33053, 28, 9},
-    {83559, 33062, 24, 9}, {83584, 33071, 24, 9}, {83609, 33080, 24, 9}, {83634, 33089, 20, 9}, {83655, 33098, 24, 9},
-    {83680, 33107, 7, 8}, {83688, 33115, 15, 9}, {83704, 33124, 12, 9}, {83717, 33133, 12, 10}, {83730, 33143, 15, 11},
-    {83746, 33154, 11, 11}, {83758, 33165, 19, 11}, {83778, 33176, 16, 11}, {83795, 33187, 19, 11},
-    {83815, 33198, 20, 11}, {83836, 33209, 23, 11}, {83860, 33220, 19, 11}, {83880, 33231, 20, 11},
-    {83901, 33242, 23, 11}, {83925, 33253, 13, 11}, {83939, 33264, 18, 11}, {83968, 33280, 13, 11},
-    {83982, 33291, 11, 6}, {83994, 33297, 14, 7}, {84009, 33304, 16, 8}, {84026, 33312, 16, 9}, {84043, 33321, 15, 10},
-    {84059, 33331, 17, 10}, {84077, 33341, 24, 8}, {84102, 33349, 24, 9}, {84127, 33358, 17, 10},
-    {84145, 33368, 16, 10}, {84162, 33378, 13, 10}, {84176, 33388, 30, 10}, {84207, 33398, 25, 10},
-    {84233, 33408, 15, 8}, {84249, 33416, 15, 9}, {84265, 33425, 23, 10}, {84289, 33435, 23, 10},
-    {84313, 33445, 23, 10}, {84337, 33455, 22, 10}, {84360, 33465, 22, 10}, {84383, 33475, 23, 10},
-    {84407, 33485, 24, 10}, {84432, 33495, 21, 10}, {84454, 33505, 16, 10}, {84480, 33515, 12, 8},
-    {84493, 33523, 16, 9}, {84510, 33532, 23, 9}, {84534, 33541, 23, 10}, {84558, 33551, 26, 11},
-    {84585, 33562, 25, 11}, {84611, 33573, 22, 11}, {84634, 33584, 22, 11}, {84657, 33595, 29, 11},
-    {84687, 33606, 24, 11}, {84712, 33617, 4, 4}, {84717, 33621, 8, 5}, {84726, 33621, 8, 5}, {84735, 33626, 17, 6},
-    {84753, 33632, 22, 7}, {84776, 33639, 24, 7}, {84801, 33646, 15, 6}, {84817, 33652, 3, 2}, {84821, 33654, 9, 4},
-    {84831, 33658, 10, 5}, {84842, 33658, 10, 5}, {84853, 33663, 7, 5}, {84861, 33663, 7, 5}, {84869, 33668, 7, 5},
-    {84877, 33668, 7, 5}, {84885, 33668, 6, 5}, {84892, 33668, 7, 5}, {84900, 33668, 3, 5}, {84904, 33673, 7, 5},
-    {84912, 33673, 7, 5}, {84920, 33678, 7, 5}, {84928, 33678, 7, 5}, {84936, 33683, 7, 5}, {84944, 33688, 12, 5},
-    {84957, 33693, 7, 5}, {84965, 33693, 17, 5}, {84992, 33698, 7, 5}, {85000, 33698, 10, 5}, {85011, 33703, 7, 5},
-    {85019, 33703, 20, 5}, {85040, 33708, 7, 5}, {85048, 33708, 7, 5}, {85056, 33708, 11, 5}, {85068, 33708, 6, 5},
-    {85075, 33713, 3, 5}, {85079, 33713, 3, 5}, {85083, 33718, 5, 5}, {85089, 33718, 4, 5}, {85094, 33718, 4, 5},
-    {85099, 33718, 9, 5}, {85109, 33718, 5, 5}, {85115, 33718, 7, 5}, {85123, 33723, 12, 5}, {85136, 33723, 15, 5},
-    {85152, 33728, 10, 5}, {85163, 33728, 11, 5}, {85175, 33733, 11, 8}, {85187, 33741, 9, 5}, {85197, 33741, 9, 5},
-    {85207, 33741, 6, 5}, {85214, 33741, 10, 5}, {85225, 33741, 6, 5}, {85232, 33746, 13, 6}, {85246, 33746, 16, 6},
-    {85263, 33746, 10, 6}, {85274, 33752, 16, 5}, {85291, 33752, 47, 5}, {85339, 33752, 10, 5}, {85350, 33757, 7, 5},
-    {85358, 33757, 18, 5}, {85377, 33762, 6, 3}, {85384, 33762, 13, 3}, {85398, 33762, 9, 3}, {85408, 33765, 4, 3},
-    {85413, 33765, 11, 3}, {85425, 33765, 7, 3}, {85433, 33768, 7, 3}, {85441, 33768, 7, 3}, {85449, 33768, 13, 3},
-    {85463, 33768, 15, 3}, {85479, 33768, 11, 3}, {85504, 33768, 10, 3}, {85515, 33771, 5, 3}, {85521, 33771, 5, 3},
-    {85527, 33771, 11, 3}, {85539, 33771, 13, 3}, {85553, 33771, 8, 3}, {85562, 33774, 4, 2}, {85567, 33776, 10, 5},
-    {85578, 33776, 38, 5}, {85617, 33781, 11, 8}, {85629, 33781, 11, 8}, {85641, 33792, 11, 8}, {85653, 33792, 11, 8},
-    {85665, 33800, 12, 3}, {85678, 33803, 5, 5}, {85684, 33803, 10, 5}, {85695, 33803, 8, 5}, {85704, 33808, 9, 5},
-    {85714, 33813, 9, 5}, {85724, 33818, 9, 5}, {85734, 33823, 9, 5}, {85744, 33828, 9, 5}, {85754, 33833, 9, 5},
-    {85764, 33838, 9, 5}, {85774, 33843, 9, 5}, {85784, 33848, 9, 5}, {85794, 33853, 5, 5}, {85800, 33853, 10, 5},
-    {85811, 33858, 5, 5}, {85817, 33858, 10, 5}, {85828, 33858, 8, 5}, {85837, 33863, 5, 5}, {85843, 33863, 10, 5},
-    {85854, 33868, 9, 5}, {85864, 33873, 9, 5}, {85874, 33878, 9, 5}, {85884, 33883, 9, 5}, {85894, 33888, 5, 5},
-    {85900, 33888, 10, 5}, {85911, 33888, 8, 5}, {85920, 33893, 5, 5}, {85926, 33893, 10, 5}, {85937, 33893, 8, 5},
-    {85946, 33898, 9, 5}, {85956, 33903, 9, 5}, {85966, 33908, 9, 5}, {85976, 33913, 9, 5}, {85986, 33918, 9, 5},
-    {85996, 33923, 5, 5}, {86002, 33923, 10, 5}, {86016, 33923, 4, 5}, {86021, 33923, 8, 5}, {86030, 33923, 8, 5},
-    {86039, 33928, 5, 5}, {86045, 33928, 8, 5}, {86054, 33928, 10, 5}, {86065, 33928, 4, 5}, {86070, 33928, 8, 5},
-    {86079, 33933, 5, 5}, {86085, 33933, 8, 5}, {86094, 33933, 10, 5}, {86105, 33933, 4, 5}, {86110, 33933, 8, 5},
-    {86119, 33938, 5, 5}, {86125, 33938, 10, 5}, {86136, 33938, 8, 5}, {86145, 33943, 5, 5}, {86151, 33943, 10, 5},
-    {86162, 33943, 8, 5}, {86171, 33948, 5, 5}, {86177, 33948, 10, 5}, {86188, 33948, 8, 5}, {86197, 33953, 5, 5},
-    {86203, 33953, 10, 5}, {86214, 33958, 7, 5}, {86222, 33958, 4, 5}, {86227, 33958, 7, 5}, {86235, 33963, 17, 1},
-    {86253, 33964, 17, 1}, {86271, 33965, 17, 1}, {86289, 33966, 17, 1}, {86307, 33967, 4, 1}, {86312, 33967, 26, 1},
-    {86339, 33967, 17, 1}, {86357, 33968, 24, 3}, {86382, 33968, 24, 3}, {86407, 33971, 9, 4}, {86417, 33975, 4, 2},
-    {86422, 33975, 5, 2}, {86428, 33977, 16, 3}, {86445, 33980, 16, 3}, {86462, 33980, 11, 3}, {86474, 33980, 16, 3},
-    {86491, 33980, 11, 3}, {86503, 33980, 16, 3}, {86528, 33983, 13, 3}, {86542, 33983, 13, 3}, {86556, 33986, 18, 3},
-    {86575, 33986, 13, 3}, {86589, 33986, 18, 3}, {86608, 33986, 13, 3}, {86622, 33986, 18, 3}, {86641, 33989, 17, 3},
-    {86659, 33989, 17, 3}, {86677, 33989, 12, 3}, {86690, 33989, 17, 3}, {86708, 33992, 18, 3}, {86727, 33992, 18, 3},
-    {86746, 33992, 13, 3}, {86760, 33992, 18, 3}, {86779, 33995, 25, 3}, {86805, 33995, 1, 3}, {86807, 33995, 16, 3},
-    {86824, 33995, 14, 3}, {86839, 33995, 9, 3}, {86849, 33995, 27, 3}, {86877, 33995, 22, 3}, {86900, 33995, 25, 3},
-    {86926, 33998, 19, 3}, {86946, 33998, 14, 3}, {86961, 34001, 22, 3}, {86984, 34001, 7, 3}, {86992, 34001, 22, 3},
-    {87015, 34001, 17, 3}, {87040, 34001, 22, 3}, {87063, 34004, 28, 3}, {87092, 34004, 19, 3}, {87112, 34004, 11, 3},
-    {87124, 34004, 29, 3}, {87154, 34004, 24, 3}, {87179, 34004, 28, 3}, {87208, 34007, 11, 3}, {87220, 34007, 1, 3},
-    {87222, 34007, 11, 3}, {87234, 34010, 17, 3}, {87252, 34010, 17, 3}, {87270, 34013, 14, 3}, {87285, 34016, 11, 3},
-    {87297, 34016, 11, 3}, {87309, 34019, 5, 3}, {87315, 34019, 6, 3}, {87322, 34022, 28, 4}, {87351, 34026, 12, 3},
-    {87364, 34026, 16, 3}, {87381, 34029, 3, 3}, {87385, 34029, 10, 3}, {87396, 34032, 8, 3}, {87405, 34035, 13, 3},
-    {87419, 34038, 21, 3}, {87441, 34038, 16, 3}, {87458, 34038, 21, 3}, {87480, 34041, 14, 3}, {87495, 34044, 27, 3},
-    {87523, 34047, 10, 3}, {87534, 34047, 10, 3}, {87552, 34050, 15, 3}, {87568, 34050, 1, 3}, {87570, 34050, 10, 3},
-    {87581, 34050, 15, 3}, {87597, 34050, 10, 3}, {87608, 34050, 15, 3}, {87624, 34053, 14, 3}, {87639, 34053, 1, 3},
-    {87641, 34053, 14, 3}, {87656, 34056, 25, 3}, {87682, 34056, 20, 3}, {87703, 34056, 20, 3}, {87724, 34056, 25, 3},
-    {87750, 34059, 17, 3}, {87768, 34059, 17, 3}, {87786, 34062, 17, 3}, {87804, 34062, 12, 3}, {87817, 34062, 17, 3},
-    {87835, 34062, 12, 3}, {87848, 34062, 17, 3}, {87866, 34065, 18, 3}, {87885, 34068, 16, 3}, {87902, 34071, 20, 3},
-    {87923, 34074, 15, 3}, {87939, 34074, 15, 3}, {87955, 34077, 29, 3}, {87985, 34080, 34, 3}, {88020, 34083, 13, 3},
-    {88064, 34086, 30, 3}, {88095, 34089, 32, 3}, {88128, 34092, 15, 3}, {88144, 34092, 15, 3}, {88160, 34095, 13, 3},
-    {88174, 34098, 10, 3}, {88185, 34101, 4, 3}, {88190, 34104, 14, 3}, {88205, 34107, 14, 3}, {88220, 34110, 16, 3},
-    {88237, 34113, 13, 3}, {88251, 34116, 22, 3}, {88274, 34116, 23, 3}, {88298, 34119, 2, 3}, {88301, 34119, 13, 3},
-    {88315, 34122, 2, 3}, {88318, 34122, 13, 3}, {88332, 34125, 7, 3}, {88340, 34128, 7, 3}, {88348, 34131, 5, 3},
-    {88354, 34134, 6, 3}, {88361, 34137, 24, 3}, {88386, 34140, 15, 3}, {88402, 34143, 17, 3}, {88420, 34146, 24, 3},
-    {88445, 34149, 14, 2}, {88460, 34149, 31, 2}, {88492, 34151, 3, 4}, {88496, 34151, 3, 4}, {88500, 34155, 8, 4},
-    {88509, 34155, 11, 4}, {88521, 34159, 4, 4}, {88526, 34159, 4, 4}, {88531, 34163, 26, 3}, {88576, 34166, 30, 3},
-    {88607, 34169, 25, 3}, {88633, 34172, 15, 3}, {88649, 34175, 5, 2}, {88655, 34177, 30, 3}, {88686, 34180, 20, 3},
-    {88707, 34183, 27, 3}, {88735, 34186, 22, 3}, {88758, 34189, 21, 3}, {88780, 34192, 26, 3}, {88807, 34192, 35, 3},
-    {88843, 34192, 23, 3}, {88867, 34192, 28, 3}, {88896, 34192, 40, 3}, {88937, 34192, 28, 3}, {88966, 34195, 23, 3},
-    {88990, 34198, 20, 3}, {89011, 34198, 29, 3}, {89041, 34198, 28, 3}, {89088, 34198, 22, 3}, {89111, 34198, 14, 3},
-    {89126, 34198, 12, 3}, {89139, 34198, 26, 3}, {89166, 34198, 14, 3}, {89181, 34198, 26, 3}, {89208, 34201, 8, 3},
-    {89217, 34201, 16, 3}, {89234, 34201, 15, 3}, {89250, 34201, 9, 3}, {89260, 34201, 10, 3}, {89271, 34201, 21, 3},
-    {89293, 34201, 9, 3}, {89303, 34201, 14, 3}, {89318, 34204, 21, 3}, {89340, 34204, 31, 3}, {89372, 34204, 29, 3},
-    {89402, 34204, 24, 3}, {89427, 34204, 15, 3}, {89443, 34204, 36, 3}, {89480, 34204, 24, 3}, {89505, 34207, 14, 3},
-    {89520, 34207, 31, 3}, {89552, 34207, 23, 3}, {89600, 34207, 24, 3}, {89625, 34207, 17, 3}, {89643, 34207, 25, 3},
-    {89669, 34207, 22, 3}, {89692, 34207, 28, 3}, {89721, 34207, 16, 3}, {89738, 34207, 20, 3}, {89759, 34210, 13, 3},
-    {89773, 34210, 30, 3}, {89804, 34210, 22, 3}, {89827, 34210, 23, 3}, {89851, 34210, 21, 3}, {89873, 34210, 27, 3},
-    {89901, 34210, 15, 3}, {89917, 34210, 19, 3}, {89937, 34213, 16, 3}, {89954, 34213, 24, 3}, {89979, 34213, 24, 3},
-    {90004, 34213, 17, 3}, {90022, 34213, 29, 3}, {90052, 34213, 17, 3}, {90070, 34213, 22, 3}, {90093, 34216, 9, 3},
-    {90112, 34216, 17, 3}, {90130, 34216, 16, 3}, {90147, 34216, 10, 3}, {90158, 34216, 10, 3}, {90169, 34216, 15, 3},
-    {90185, 34219, 9, 3}, {90195, 34219, 22, 3}, {90218, 34219, 21, 3}, {90240, 34219, 15, 3}, {90256, 34219, 10, 3},
-    {90267, 34219, 10, 3}, {90278, 34219, 16, 3}, {90295, 34222, 19, 3}, {90315, 34222, 21, 3}, {90337, 34222, 22, 3},
-    {90360, 34222, 25, 3}, {90386, 34222, 21, 3}, {90408, 34225, 14, 3}, {90423, 34225, 15, 3}, {90439, 34225, 15, 3},
-    {90455, 34225, 20, 3}, {90476, 34228, 8, 3}, {90485, 34228, 26, 3}, {90512, 34228, 25, 3}, {90538, 34228, 19, 3},
-    {90558, 34228, 17, 3}, {90576, 34228, 19, 3}, {90596, 34228, 23, 3}, {90624, 34231, 24, 3}, {90649, 34231, 33, 3},
-    {90683, 34231, 24, 3}, {90708, 34231, 26, 3}, {90735, 34231, 26, 3}, {90762, 34231, 30, 3}, {90793, 34234, 17, 3},
-    {90811, 34234, 25, 3}, {90837, 34234, 18, 3}, {90856, 34234, 28, 3}, {90885, 34234, 18, 3}, {90904, 34234, 23, 3},
-    {90928, 34237, 15, 3}, {90944, 34237, 23, 3}, {90968, 34237, 22, 3}, {90991, 34237, 16, 3}, {91008, 34237, 28, 3},
-    {91037, 34237, 16, 3}, {91054, 34237, 21, 3}, {91076, 34240, 21, 3}, {91098, 34240, 30, 3}, {91136, 34240, 21, 3},
-    {91158, 34240, 23, 3}, {91182, 34240, 13, 3}, {91196, 34240, 37, 3}, {91234, 34240, 23, 3}, {91258, 34240, 27, 3},
-    {91286, 34243, 19, 3}, {91306, 34243, 27, 3}, {91334, 34243, 19, 3}, {91354, 34243, 20, 3}, {91375, 34243, 20, 3},
-    {91396, 34243, 25, 3}, {91422, 34246, 17, 4}, {91440, 34246, 21, 4}, {91462, 34246, 10, 4}, {91473, 34246, 21, 4},
-    {91495, 34246, 30, 4}, {91526, 34246, 10, 4}, {91537, 34250, 14, 3}, {91552, 34250, 22, 3}, {91575, 34250, 21, 3},
-    {91597, 34250, 15, 3}, {91613, 34250, 27, 3}, {91648, 34250, 15, 3}, {91664, 34250, 20, 3}, {91685, 34253, 22, 3},
-    {91708, 34253, 31, 3}, {91740, 34253, 31, 3}, {91772, 34253, 24, 3}, {91797, 34253, 16, 3}, {91814, 34253, 14, 3},
-    {91829, 34253, 36, 3}, {91866, 34253, 24, 3}, {91891, 34253, 28, 3}, {91920, 34256, 17, 3}, {91938, 34256, 25, 3},
-    {91964, 34256, 24, 3}, {91989, 34256, 18, 3}, {92008, 34256, 30, 3}, {92039, 34256, 18, 3}, {92058, 34256, 23, 3},
-    {92082, 34259, 16, 3}, {92099, 34259, 25, 3}, {92125, 34259, 24, 3}, {92160, 34259, 18, 3}, {92179, 34259, 18, 3},
-    {92198, 34259, 19, 3}, {92218, 34259, 11, 3}, {92230, 34259, 18, 3}, {92249, 34259, 17, 3}, {92267, 34262, 22, 4},
-    {92290, 34262, 28, 4}, {92319, 34262, 11, 4}, {92331, 34262, 14, 4}, {92346, 34262, 22, 4}, {92369, 34266, 28, 3},
-    {92398, 34266, 37, 3}, {92436, 34266, 30, 3}, {92467, 34269, 22, 3}, {92490, 34269, 48, 3}, {92539, 34269, 41, 3},
-    {92581, 34272, 19, 3}, {92601, 34272, 46, 3}, {92672, 34272, 39, 3}, {92712, 34275, 24, 3}, {92737, 34275, 33, 3},
-    {92771, 34275, 26, 3}, {92798, 34278, 17, 3}, {92816, 34278, 25, 3}, {92842, 34278, 18, 3}, {92861, 34281, 11, 3},
-    {92873, 34281, 19, 3}, {92893, 34281, 18, 3}, {92912, 34281, 12, 3}, {92925, 34281, 12, 3}, {92938, 34281, 17, 3},
-    {92956, 34284, 19, 3}, {92976, 34284, 27, 3}, {93004, 34284, 20, 3}, {93025, 34287, 10, 3}, {93036, 34287, 18, 3},
-    {93055, 34290, 13, 3}, {93069, 34290, 37, 3}, {93107, 34290, 30, 3}, {93138, 34293, 22, 3}, {93184, 34293, 40, 3},
-    {93225, 34293, 33, 3}, {93259, 34296, 16, 3}, {93276, 34296, 25, 3}, {93302, 34296, 24, 3}, {93327, 34296, 18, 3},
-    {93346, 34296, 18, 3}, {93365, 34296, 22, 3}, {93388, 34304, 17, 3}, {93406, 34304, 19, 3}, {93426, 34304, 12, 3},
-    {93439, 34307, 10, 3}, {93450, 34307, 30, 3}, {93481, 34307, 23, 3}, {93505, 34310, 22, 3}, {93528, 34310, 36, 3},
-    {93565, 34310, 29, 3}, {93595, 34313, 14, 3}, {93610, 34313, 22, 3}, {93633, 34313, 15, 3}, {93649, 34316, 11, 3},
-    {93661, 34316, 19, 3}, {93696, 34316, 12, 3}, {93709, 34319, 26, 3}, {93736, 34319, 53, 3}, {93790, 34319, 46, 3},
-    {93837, 34322, 16, 3}, {93854, 34322, 26, 3}, {93881, 34322, 19, 3}, {93901, 34325, 9, 3}, {93911, 34325, 17, 3},
-    {93929, 34325, 10, 3}, {93940, 34328, 7, 3}, {93948, 34328, 34, 3}, {93983, 34328, 27, 3}, {94011, 34331, 27, 3},
-    {94039, 34331, 36, 3}, {94076, 34331, 29, 3}, {94106, 34334, 17, 3}, {94124, 34334, 25, 3}, {94150, 34334, 18, 3},
-    {94169, 34337, 21, 3}, {94208, 34337, 30, 3}, {94239, 34337, 23, 3}, {94263, 34340, 23, 3}, {94287, 34340, 31, 3},
-    {94319, 34340, 24, 3}, {94344, 34343, 12, 3}, {94357, 34343, 27, 3}, {94385, 34343, 20, 3}, {94406, 34346, 23, 3},
-    {94430, 34346, 42, 3}, {94473, 34346, 35, 3}, {94509, 34349, 21, 3}, {94531, 34349, 38, 3}, {94570, 34349, 31, 3},
-    {94602, 34352, 17, 3}, {94620, 34352, 34, 3}, {94655, 34352, 27, 3}, {94683, 34355, 21, 3}, {94720, 34355, 29, 3},
-    {94750, 34355, 22, 3}, {94773, 34358, 17, 1}, {94791, 34359, 17, 1}, {94809, 34360, 18, 1}, {94828, 34361, 7, 9},
-    {94836, 34370, 19, 9}, {94856, 34379, 14, 9}, {94871, 34388, 13, 7}, {94885, 34395, 11, 9}, {94897, 34395, 11, 9},
-    {94909, 34395, 21, 9}, {94931, 34395, 10, 9}, {94942, 34404, 11, 9}, {94954, 34404, 11, 9}, {94966, 34404, 6, 9},
-    {94973, 34404, 14, 9}, {94988, 34404, 21, 9}, {95010, 34404, 7, 9}, {95018, 34404, 10, 9}, {95029, 34404, 13, 9},
-    {95043, 34413, 11, 9}, {95055, 34413, 11, 9}, {95067, 34413, 21, 9}, {95089, 34413, 10, 9}, {95100, 34422, 11, 9},
-    {95112, 34422, 11, 9}, {95124, 34422, 21, 9}, {95146, 34422, 10, 9}, {95157, 34431, 12, 9}, {95170, 34431, 11, 9},
-    {95182, 34431, 6, 9}, {95189, 34431, 20, 9}, {95210, 34431, 11, 9}, {95232, 34431, 16, 9}, {95249, 34431, 11, 9},
-    {95261, 34431, 14, 9}, {95276, 34440, 11, 9}, {95288, 34440, 7, 9}, {95296, 34440, 21, 9}, {95318, 34440, 10, 9},
-    {95329, 34440, 13, 9}, {95343, 34449, 11, 9}, {95355, 34449, 10, 9}, {95366, 34458, 18, 9}, {95385, 34458, 16, 9},
-    {95402, 34458, 15, 9}, {95418, 34458, 21, 9}, {95440, 34458, 14, 9}, {95455, 34458, 15, 9}, {95471, 34458, 18, 9},
-    {95490, 34467, 11, 9}, {95502, 34467, 11, 9}, {95514, 34467, 21, 9}, {95536, 34467, 10, 9}, {95547, 34476, 11, 9},
-    {95559, 34476, 11, 9}, {95571, 34476, 6, 9}, {95578, 34476, 14, 9}, {95593, 34476, 21, 9}, {95615, 34476, 7, 9},
-    {95623, 34476, 10, 9}, {95634, 34476, 13, 9}, {95648, 34485, 11, 9}, {95660, 34485, 11, 9}, {95672, 34485, 21, 9},
-    {95694, 34485, 10, 9}, {95705, 34494, 11, 9}, {95717, 34494, 11, 9}, {95744, 34494, 21, 9}, {95766, 34494, 10, 9},
-    {95777, 34503, 12, 9}, {95790, 34503, 11, 9}, {95802, 34503, 6, 9}, {95809, 34503, 20, 9}, {95830, 34503, 11, 9},
-    {95842, 34503, 16, 9}, {95859, 34503, 11, 9}, {95871, 34503, 14, 9}, {95886, 34512, 11, 9}, {95898, 34512, 7, 9},
-    {95906, 34512, 21, 9}, {95928, 34512, 10, 9}, {95939, 34512, 13, 9}, {95953, 34521, 11, 9}, {95965, 34521, 10, 9},
-    {95976, 34530, 18, 9}, {95995, 34530, 16, 9}, {96012, 34530, 15, 9}, {96028, 34530, 21, 9}, {96050, 34530, 14, 9},
-    {96065, 34530, 15, 9}, {96081, 34530, 18, 9}, {96100, 34539, 11, 9}, {96112, 34539, 11, 9}, {96124, 34539, 21, 9},
-    {96146, 34539, 10, 9}, {96157, 34548, 11, 9}, {96169, 34548, 11, 9}, {96181, 34548, 6, 9}, {96188, 34548, 14, 9},
-    {96203, 34548, 21, 9}, {96225, 34548, 7, 9}, {96233, 34548, 10, 9}, {96256, 34548, 13, 9}, {96270, 34557, 11, 9},
-    {96282, 34557, 11, 9}, {96294, 34557, 21, 9}, {96316, 34557, 10, 9}, {96327, 34566, 11, 9}, {96339, 34566, 11, 9},
-    {96351, 34566, 21, 9}, {96373, 34566, 10, 9}, {96384, 34575, 12, 9}, {96397, 34575, 11, 9}, {96409, 34575, 6, 9},
-    {96416, 34575, 20, 9}, {96437, 34575, 11, 9}, {96449, 34575, 16, 9}, {96466, 34575, 11, 9}, {96478, 34575, 14, 9},
-    {96493, 34584, 11, 9}, {96505, 34584, 7, 9}, {96513, 34584, 21, 9}, {96535, 34584, 10, 9}, {96546, 34584, 13, 9},
-    {96560, 34593, 11, 9}, {96572, 34593, 10, 9}, {96583, 34602, 18, 9}, {96602, 34602, 16, 9}, {96619, 34602, 15, 9},
-    {96635, 34602, 21, 9}, {96657, 34602, 14, 9}, {96672, 34602, 15, 9}, {96688, 34602, 18, 9}, {96707, 34611, 7, 9},
-    {96715, 34611, 6, 9}, {96722, 34611, 6, 9}, {96729, 34611, 8, 9}, {96738, 34611, 7, 9}, {96746, 34611, 9, 9},
-    {96756, 34620, 7, 9}, {96768, 34620, 6, 9}, {96775, 34620, 6, 9}, {96782, 34620, 8, 9}, {96791, 34620, 7, 9},
-    {96799, 34620, 9, 9}, {96809, 34629, 7, 9}, {96817, 34629, 6, 9}, {96824, 34629, 6, 9}, {96831, 34629, 8, 9},
-    {96840, 34629, 7, 9}, {96848, 34629, 9, 9}, {96858, 34638, 7, 9}, {96866, 34638, 6, 9}, {96873, 34638, 6, 9},
-    {96880, 34638, 8, 9}, {96889, 34638, 7, 9}, {96897, 34638, 9, 9}, {96907, 34647, 11, 9}, {96919, 34647, 10, 9},
-    {96930, 34647, 10, 9}, {96941, 34647, 12, 9}, {96954, 34647, 13, 9}, {96968, 34647, 10, 9}, {96979, 34647, 10, 9},
-    {96990, 34647, 13, 9}, {97004, 34656, 11, 9}, {97016, 34656, 10, 9}, {97027, 34656, 10, 9}, {97038, 34656, 12, 9},
-    {97051, 34656, 13, 9}, {97065, 34656, 10, 9}, {97076, 34656, 10, 9}, {97087, 34656, 13, 9}, {97101, 34665, 8, 9},
-    {97110, 34665, 8, 9}, {97119, 34665, 8, 9}, {97128, 34674, 8, 9}, {97137, 34674, 8, 9}, {97146, 34674, 8, 9},
-    {97155, 34683, 8, 9}, {97164, 34683, 8, 9}, {97173, 34683, 8, 9}, {97182, 34692, 8, 9}, {97191, 34692, 8, 9},
-    {97200, 34692, 8, 9}, {97209, 34701, 8, 9}, {97218, 34701, 8, 9}, {97227, 34701, 9, 9}, {97237, 34701, 12, 9},
-    {97250, 34701, 9, 9}, {97260, 34710, 8, 9}, {97280, 34710, 8, 9}, {97289, 34710, 9, 9}, {97299, 34710, 12, 9},
-    {97312, 34710, 9, 9}, {97322, 34719, 13, 9}, {97336, 34719, 12, 9}, {97349, 34728, 13, 9}, {97363, 34728, 12, 9},
-    {97376, 34737, 13, 9}, {97390, 34737, 12, 9}, {97403, 34746, 13, 9}, {97417, 34746, 12, 9}, {97430, 34755, 12, 9},
-    {97443, 34755, 12, 9}, {97456, 34764, 15, 9}, {97472, 34764, 12, 9}, {97485, 34764, 12, 9}, {97498, 34773, 7, 9},
-    {97506, 34773, 7, 9}, {97514, 34773, 8, 9}, {97523, 34782, 7, 9}, {97531, 34782, 7, 9}, {97539, 34782, 8, 9},
-    {97548, 34791, 15, 9}, {97564, 34791, 12, 9}, {97577, 34791, 10, 9}, {97588, 34791, 18, 9}, {97607, 34791, 13, 9},
-    {97621, 34791, 26, 9}, {97648, 34791, 10, 9}, {97659, 34791, 18, 9}, {97678, 34800, 15, 9}, {97694, 34800, 12, 9},
-    {97707, 34800, 10, 9}, {97718, 34800, 18, 9}, {97737, 34800, 16, 9}, {97754, 34800, 13, 9}, {97792, 34800, 26, 9},
-    {97819, 34800, 13, 9}, {97833, 34800, 10, 9}, {97844, 34800, 18, 9}, {97863, 34816, 18, 9}, {97882, 34816, 15, 9},
-    {97898, 34816, 12, 9}, {97911, 34816, 10, 9}, {97922, 34816, 13, 9}, {97936, 34825, 18, 9}, {97955, 34825, 15, 9},
-    {97971, 34825, 12, 9}, {97984, 34825, 10, 9}, {97995, 34825, 13, 9}, {98009, 34834, 20, 9}, {98030, 34834, 17, 9},
-    {98048, 34834, 12, 9}, {98061, 34834, 15, 9}, {98077, 34843, 20, 9}, {98098, 34843, 17, 9}, {98116, 34843, 12, 9},
-    {98129, 34843, 15, 9}, {98145, 34852, 20, 9}, {98166, 34852, 17, 9}, {98184, 34852, 12, 9}, {98197, 34852, 15, 9},
-    {98213, 34861, 20, 9}, {98234, 34861, 17, 9}, {98252, 34861, 12, 9}, {98265, 34861, 15, 9}, {98281, 34870, 19, 9},
-    {98304, 34870, 14, 9}, {98319, 34870, 17, 9}, {98337, 34870, 14, 9}, {98352, 34879, 19, 9}, {98372, 34879, 14, 9},
-    {98387, 34879, 17, 9}, {98405, 34879, 14, 9}, {98420, 34888, 19, 9}, {98440, 34888, 14, 9}, {98455, 34888, 17, 9},
-    {98473, 34888, 14, 9}, {98488, 34897, 19, 9}, {98508, 34897, 14, 9}, {98523, 34897, 17, 9}, {98541, 34897, 14, 9},
-    {98556, 34906, 34, 9}, {98591, 34906, 12, 9}, {98604, 34906, 15, 9}, {98620, 34915, 34, 9}, {98655, 34915, 12, 9},
-    {98668, 34915, 15, 9}, {98684, 34924, 34, 9}, {98719, 34924, 12, 9}, {98732, 34924, 15, 9}, {98748, 34933, 34, 9},
-    {98783, 34933, 12, 9}, {98796, 34933, 15, 9}, {98816, 34942, 9, 9}, {98826, 34942, 7, 9}, {98834, 34951, 9, 9},
-    {98844, 34951, 7, 9}, {98852, 34960, 9, 9}, {98862, 34960, 7, 9}, {98870, 34969, 17, 9}, {98888, 34978, 17, 9},
-    {98906, 34987, 17, 9}, {98924, 34996, 17, 9}, {98942, 35005, 17, 9}, {98960, 35014, 17, 9}, {98978, 35023, 18, 9},
-    {98997, 35032, 18, 9}, {99016, 35041, 18, 9}, {99035, 35050, 18, 9}, {99054, 35059, 18, 9}, {99073, 35068, 18, 9},
-    {99092, 35077, 26, 9}, {99119, 35086, 26, 9}, {99146, 35095, 26, 9}, {99173, 35104, 29, 9}, {99203, 35113, 29, 9},
-    {99233, 35122, 29, 9}, {99263, 35131, 29, 9}, {99293, 35140, 29, 9}, {99328, 35149, 29, 9}, {99358, 35158, 32, 9},
-    {99391, 35167, 32, 9}, {99424, 35176, 32, 9}, {99457, 35185, 32, 9}, {99490, 35194, 32, 9}, {99523, 35203, 32, 9},
-    {99556, 35212, 10, 9}, {99567, 35212, 8, 9}, {99576, 35221, 10, 9}, {99587, 35221, 8, 9}, {99596, 35230, 11, 9},
-    {99608, 35230, 9, 9}, {99618, 35239, 19, 8}, {99638, 35247, 23, 8}, {99662, 35255, 25, 8}, {99688, 35263, 16, 13},
-    {99705, 35276, 16, 13}, {99722, 35289, 12, 13}, {99735, 35302, 22, 13}, {99758, 35328, 14, 13},
-    {99773, 35341, 16, 13}, {99790, 35354, 18, 13}, {99809, 35367, 18, 13}, {99840, 35380, 14, 13},
-    {99855, 35393, 13, 13}, {99869, 35406, 13, 13}, {99883, 35419, 13, 13}, {99897, 35432, 14, 13},
-    {99912, 35445, 22, 13}, {99935, 35458, 18, 13}, {99954, 35471, 13, 13}, {99968, 35484, 13, 13},
-    {99982, 35497, 13, 13}, {99996, 35510, 18, 13}, {100015, 35523, 15, 13}, {100031, 35536, 19, 13},
-    {100051, 35549, 21, 13}, {100073, 35562, 21, 13}, {100095, 35575, 15, 13}, {100111, 35588, 24, 13},
-    {100136, 35601, 11, 13}, {100148, 35614, 22, 13}, {100171, 35627, 24, 13}, {100196, 35640, 13, 13},
-    {100210, 35653, 16, 13}, {100227, 35666, 7, 13}, {100235, 35679, 19, 13}, {100255, 35692, 21, 13},
-    {100277, 35705, 17, 13}, {100295, 35718, 19, 13}, {100315, 35731, 12, 13}, {100328, 35744, 19, 13},
-    {100352, 35757, 20, 13}, {100373, 35770, 12, 13}, {100386, 35783, 17, 13}, {100404, 35796, 10, 13},
-    {100415, 35809, 13, 13}, {100429, 35822, 13, 13}, {100443, 35840, 15, 13}, {100459, 35853, 12, 13},
-    {100472, 35866, 14, 13}, {100487, 35879, 13, 13}, {100501, 35892, 12, 13}, {100514, 35905, 18, 13},
-    {100533, 35918, 15, 13}, {100549, 35931, 8, 7}, {100558, 35931, 29, 7}, {100588, 35938, 9, 8},
-    {100598, 35938, 30, 8}, {100629, 35946, 10, 9}, {100640, 35946, 18, 9}, {100659, 35946, 25, 9},
-    {100685, 35955, 9, 9}, {100695, 35955, 17, 9}, {100713, 35964, 15, 9}, {100729, 35964, 23, 9},
-    {100753, 35973, 17, 9}, {100771, 35973, 26, 9}, {100798, 35982, 12, 9}, {100811, 35982, 20, 9},
-    {100832, 35991, 13, 9}, {100864, 35991, 22, 9}, {100887, 36000, 15, 9}, {100903, 36000, 24, 9},
-    {100928, 36009, 9, 9}, {100938, 36009, 16, 9}, {100955, 36018, 10, 8}, {100966, 36018, 18, 8},
-    {100985, 36026, 14, 9}, {101000, 36026, 29, 9}, {101030, 36035, 12, 10}, {101043, 36045, 8, 10},
-    {101052, 36055, 10, 10}, {101063, 36065, 7, 10}, {101071, 36075, 6, 10}, {101078, 36085, 12, 10},
-    {101091, 36095, 11, 10}, {101103, 36105, 16, 10}, {101120, 36115, 8, 10}, {101129, 36125, 10, 10},
-    {101140, 36135, 14, 10}, {101155, 36145, 18, 10}, {101174, 36155, 10, 10}, {101185, 36165, 9, 11},
-    {101195, 36176, 10, 11}, {101206, 36187, 14, 10}, {101221, 36197, 11, 10}, {101233, 36207, 22, 11},
-    {101256, 36218, 24, 10}, {101281, 36228, 28, 10}, {101310, 36238, 31, 10}, {101376, 36248, 32, 10},
-    {101409, 36258, 40, 10}, {101450, 36268, 23, 10}, {101474, 36278, 24, 10}, {101499, 36288, 29, 10},
-    {101529, 36298, 28, 10}, {101558, 36308, 24, 10}, {101583, 36318, 19, 12}, {101603, 36330, 5, 9},
-    {101609, 36330, 28, 9}, {101638, 36330, 25, 9}, {101664, 36330, 36, 9}, {101701, 36339, 19, 7},
-    {101721, 36339, 19, 7}, {101741, 36352, 26, 12}, {101768, 36352, 26, 12}, {101795, 36352, 17, 12},
-    {101813, 36364, 18, 1}, {101832, 36365, 27, 1}, {101888, 36365, 27, 1}, {101916, 36365, 18, 1},
-    {101935, 36366, 6, 2}, {101942, 36366, 30, 2}, {101973, 36368, 9, 3}, {101983, 36368, 13, 3},
-    {101997, 36371, 13, 4}, {102011, 36375, 14, 4}, {102026, 36379, 13, 4}, {102040, 36383, 12, 4},
-    {102053, 36387, 8, 4}, {102062, 36391, 12, 4}, {102075, 36395, 20, 4}, {102096, 36399, 14, 4},
-    {102111, 36403, 20, 4}, {102132, 36407, 23, 4}, {102156, 36411, 23, 4}, {102180, 36415, 17, 4},
-    {102198, 36419, 18, 4}, {102217, 36423, 12, 4}, {102230, 36427, 14, 4}, {102245, 36431, 16, 4},
-    {102262, 36435, 16, 4}, {102279, 36439, 17, 4}, {102297, 36443, 18, 4}, {102316, 36447, 18, 4},
-    {102335, 36451, 17, 4}, {102353, 36455, 20, 4}, {102374, 36459, 19, 4}, {102400, 36463, 20, 4},
-    {102421, 36467, 19, 4}, {102441, 36471, 15, 4}, {102457, 36475, 16, 4}, {102474, 36479, 16, 4},
-    {102491, 36483, 18, 4}, {102510, 36487, 19, 4}, {102530, 36491, 19, 4}, {102550, 36495, 16, 4},
-    {102567, 36499, 17, 4}, {102585, 36503, 17, 4}, {102603, 36507, 19, 4}, {102623, 36511, 20, 4},
-    {102644, 36515, 20, 4}, {102665, 36519, 18, 4}, {102684, 36523, 17, 4}, {102702, 36527, 23, 4},
-    {102726, 36531, 23, 4}, {102750, 36535, 21, 4}, {102772, 36539, 21, 4}, {102794, 36543, 19, 4},
-    {102814, 36547, 17, 4}, {102832, 36551, 16, 4}, {102849, 36555, 17, 4}, {102867, 36559, 19, 4},
-    {102887, 36563, 14, 4}, {102912, 36567, 21, 4}, {102934, 36571, 19, 4}, {102954, 36575, 16, 4},
-    {102971, 36579, 16, 4}, {102988, 36583, 17, 4}, {103006, 36587, 18, 4}, {103025, 36591, 17, 4},
-    {103043, 36595, 18, 4}, {103062, 36599, 23, 4}, {103086, 36603, 19, 4}, {103106, 36607, 19, 4},
-    {103126, 36611, 20, 4}, {103147, 36615, 15, 4}, {103163, 36619, 16, 4}, {103180, 36623, 15, 4},
-    {103196, 36627, 18, 4}, {103215, 36631, 19, 4}, {103235, 36635, 18, 4}, {103254, 36639, 16, 4},
-    {103271, 36643, 17, 4}, {103289, 36647, 16, 4}, {103306, 36651, 19, 4}, {103326, 36655, 20, 4},
-    {103347, 36659, 19, 4}, {103367, 36663, 22, 4}, {103390, 36667, 22, 4}, {103424, 36671, 19, 4},
-    {103444, 36675, 16, 4}, {103461, 36679, 17, 4}, {103479, 36683, 16, 4}, {103496, 36687, 24, 4},
-    {103521, 36691, 27, 4}, {103549, 36695, 24, 4}, {103574, 36699, 10, 3}, {103585, 36699, 18, 3},
-    {103604, 36702, 15, 4}, {103620, 36702, 18, 4}, {103639, 36706, 13, 4}, {103653, 36706, 23, 4},
-    {103677, 36710, 16, 4}, {103694, 36714, 13, 4}, {103708, 36718, 13, 4}, {103722, 36722, 9, 4},
-    {103732, 36722, 23, 4}, {103756, 36726, 8, 3}, {103765, 36729, 12, 4}, {103778, 36733, 16, 5},
-    {103795, 36738, 13, 5}, {103809, 36743, 15, 4}, {103825, 36743, 28, 4}, {103854, 36747, 17, 4},
-    {103872, 36751, 17, 5}, {103890, 36756, 21, 5}, {103912, 36761, 14, 4}, {103936, 36761, 19, 4},
-    {103956, 36765, 18, 5}, {103975, 36770, 19, 6}, {103995, 36770, 19, 6}, {104015, 36776, 17, 5},
-    {104033, 36781, 13, 6}, {104047, 36781, 17, 6}, {104065, 36787, 18, 6}, {104084, 36787, 17, 6},
-    {104102, 36793, 18, 5}, {104121, 36798, 17, 6}, {104139, 36798, 22, 6}, {104162, 36804, 17, 6},
-    {104180, 36804, 23, 6}, {104204, 36810, 10, 3}, {104215, 36813, 15, 4}, {104231, 36817, 11, 3},
-    {104243, 36817, 22, 3}, {104266, 36820, 18, 4}, {104285, 36824, 16, 4}, {104302, 36828, 17, 4},
-    {104320, 36832, 21, 4}, {104342, 36836, 17, 4}, {104360, 36840, 14, 4}, {104375, 36844, 16, 4},
-    {104392, 36848, 24, 4}, {104417, 36852, 23, 4}, {104448, 36856, 18, 4}, {104467, 36864, 17, 4},
-    {104485, 36868, 26, 4}, {104512, 36872, 9, 3}, {104522, 36875, 18, 4}, {104541, 36879, 14, 4},
-    {104556, 36883, 20, 4}, {104577, 36887, 16, 4}, {104594, 36891, 25, 4}, {104620, 36895, 13, 4},
-    {104634, 36899, 15, 5}, {104650, 36904, 3, 2}, {104654, 36906, 7, 3}, {104662, 36909, 22, 5},
-    {104685, 36914, 22, 5}, {104708, 36919, 22, 5}, {104731, 36924, 22, 5}, {104754, 36929, 22, 5},
-    {104777, 36934, 22, 5}, {104800, 36939, 22, 5}, {104823, 36944, 22, 5}, {104846, 36949, 23, 5},
-    {104870, 36954, 23, 5}, {104894, 36959, 23, 5}, {104918, 36964, 3, 3}, {104922, 36964, 23, 3},
-    {104960, 36967, 34, 4}, {104995, 36971, 16, 5}, {105012, 36971, 16, 5}, {105029, 36976, 9, 5},
-    {105039, 36976, 9, 5}, {105049, 36981, 11, 5}, {105061, 36981, 11, 5}, {105073, 36986, 21, 5},
-    {105095, 36991, 14, 5}, {105110, 36996, 16, 5}, {105127, 37001, 18, 5}, {105146, 37006, 22, 5},
-    {105169, 37011, 19, 5}, {105189, 37016, 22, 5}, {105212, 37021, 19, 5}, {105232, 37026, 12, 5},
-    {105245, 37031, 17, 5}, {105263, 37031, 17, 5}, {105281, 37036, 26, 5}, {105308, 37036, 26, 5},
-    {105335, 37041, 23, 5}, {105359, 37041, 23, 5}, {105383, 37046, 23, 5}, {105407, 37051, 33, 5},
-    {105472, 37051, 28, 5}, {105501, 37056, 24, 5}, {105526, 37056, 19, 5}, {105546, 37061, 35, 5},
-    {105582, 37061, 34, 5}, {105617, 37066, 31, 5}, {105649, 37066, 30, 5}, {105680, 37071, 27, 5},
-    {105708, 37071, 25, 5}, {105734, 37076, 33, 4}, {105768, 37080, 16, 5}, {105785, 37085, 34, 4},
-    {105820, 37089, 18, 5}, {105839, 37094, 17, 4}, {105857, 37094, 40, 4}, {105898, 37098, 10, 5},
-    {105909, 37098, 30, 5}, {105940, 37103, 30, 6}, {105984, 37103, 32, 6}, {106017, 37109, 29, 6},
-    {106047, 37109, 28, 6}, {106076, 37115, 24, 6}, {106101, 37115, 30, 6}, {106132, 37121, 20, 6},
-    {106153, 37121, 18, 6}, {106172, 37127, 22, 6}, {106195, 37127, 20, 6}, {106216, 37133, 21, 6},
-    {106238, 37133, 26, 6}, {106265, 37139, 28, 6}, {106294, 37139, 26, 6}, {106321, 37145, 31, 7},
-    {106353, 37145, 32, 7}, {106386, 37152, 31, 7}, {106418, 37152, 32, 7}, {106451, 37159, 31, 7},
-    {106496, 37159, 32, 7}, {106529, 37166, 27, 7}, {106557, 37166, 36, 7}, {106594, 37173, 25, 6},
-    {106620, 37173, 23, 6}, {106644, 37179, 46, 4}, {106691, 37183, 20, 5}, {106712, 37188, 18, 5},
-    {106731, 37193, 36, 5}, {106768, 37198, 40, 5}, {106809, 37203, 41, 5}, {106851, 37208, 31, 5},
-    {106883, 37213, 36, 4}, {106920, 37217, 27, 5}, {106948, 37222, 35, 5}, {107008, 37222, 30, 5},
-    {107039, 37222, 20, 5}, {107060, 37227, 36, 5}, {107097, 37232, 29, 5}, {107127, 37232, 24, 5},
-    {107152, 37237, 40, 5}, {107193, 37237, 36, 5}, {107230, 37242, 34, 5}, {107265, 37242, 30, 5},
-    {107296, 37247, 45, 5}, {107342, 37247, 41, 5}, {107384, 37252, 39, 5}, {107424, 37252, 35, 5},
-    {107460, 37257, 6, 4}, {107467, 37257, 44, 4}, {107520, 37261, 35, 5}, {107556, 37261, 43, 5},
-    {107600, 37266, 11, 4}, {107612, 37266, 39, 4}, {107652, 37270, 23, 5}, {107676, 37270, 20, 5},
-    {107697, 37275, 19, 5}, {107717, 37275, 16, 5}, {107734, 37280, 24, 5}, {107759, 37280, 21, 5},
-    {107781, 37285, 12, 4}, {107794, 37285, 32, 4}, {107827, 37289, 27, 5}, {107855, 37289, 19, 5},
-    {107875, 37294, 31, 6}, {107907, 37294, 31, 6}, {107939, 37300, 32, 6}, {107972, 37300, 40, 6},
-    {108032, 37306, 32, 6}, {108065, 37306, 42, 6}, {108108, 37312, 32, 6}, {108141, 37312, 20, 6},
-    {108162, 37318, 32, 6}, {108195, 37318, 20, 6}, {108216, 37324, 10, 4}, {108227, 37324, 30, 4},
-    {108258, 37328, 9, 5}, {108268, 37328, 21, 5}, {108290, 37333, 17, 6}, {108308, 37333, 13, 6},
-    {108322, 37339, 31, 6}, {108354, 37339, 28, 6}, {108383, 37345, 24, 6}, {108408, 37345, 21, 6},
-    {108430, 37351, 24, 6}, {108455, 37351, 21, 6}, {108477, 37357, 32, 6}, {108544, 37357, 31, 6},
-    {108576, 37363, 19, 6}, {108596, 37363, 16, 6}, {108613, 37376, 22, 6}, {108636, 37376, 20, 6},
-    {108657, 37382, 20, 6}, {108678, 37382, 17, 6}, {108696, 37388, 13, 6}, {108710, 37388, 23, 6},
-    {108734, 37394, 13, 6}, {108748, 37394, 31, 6}, {108780, 37400, 38, 6}, {108819, 37400, 36, 6},
-    {108856, 37406, 47, 6}, {108904, 37406, 46, 6}, {108951, 37412, 42, 6}, {108994, 37412, 41, 6},
-    {109056, 37418, 38, 6}, {109095, 37418, 36, 6}, {109132, 37424, 13, 6}, {109146, 37424, 35, 6},
-    {109182, 37430, 16, 6}, {109199, 37430, 22, 6}, {109222, 37436, 13, 6}, {109236, 37436, 33, 6},
-    {109270, 37442, 20, 6}, {109291, 37442, 16, 6}, {109308, 37448, 19, 6}, {109328, 37448, 15, 6},
-    {109344, 37454, 23, 6}, {109368, 37454, 36, 6}, {109405, 37460, 19, 6}, {109425, 37460, 16, 6},
-    {109442, 37466, 15, 5}, {109458, 37466, 20, 5}, {109479, 37471, 31, 6}, {109511, 37471, 36, 6},
-    {109568, 37477, 24, 6}, {109593, 37477, 29, 6}, {109623, 37483, 26, 6}, {109650, 37483, 31, 6},
-    {109682, 37489, 25, 6}, {109708, 37489, 30, 6}, {109739, 37495, 41, 6}, {109781, 37495, 47, 6},
-    {109829, 37501, 28, 6}, {109858, 37501, 33, 6}, {109892, 37507, 25, 6}, {109918, 37507, 30, 6},
-    {109949, 37513, 32, 6}, {109982, 37513, 37, 6}, {110020, 37519, 25, 6}, {110046, 37519, 30, 6},
-    {110080, 37525, 26, 6}, {110107, 37525, 31, 6}, {110139, 37531, 26, 6}, {110166, 37531, 31, 6},
-    {110198, 37537, 28, 6}, {110227, 37537, 33, 6}, {110261, 37543, 28, 6}, {110290, 37543, 33, 6},
-    {110324, 37549, 36, 6}, {110361, 37549, 42, 6}, {110404, 37555, 24, 6}, {110429, 37555, 29, 6},
-    {110459, 37561, 25, 6}, {110485, 37561, 30, 6}, {110516, 37567, 28, 6}, {110545, 37567, 33, 6},
-    {110592, 37573, 26, 6}, {110619, 37573, 31, 6}, {110651, 37579, 26, 6}, {110678, 37579, 31, 6},
-    {110710, 37585, 25, 6}, {110736, 37585, 30, 6}, {110767, 37591, 30, 6}, {110798, 37591, 35, 6},
-    {110834, 37597, 35, 6}, {110870, 37597, 41, 6}, {110912, 37603, 36, 6}, {110949, 37603, 42, 6},
-    {110992, 37609, 29, 6}, {111022, 37609, 34, 6}, {111057, 37615, 25, 6}, {111104, 37615, 30, 6},
-    {111135, 37621, 33, 6}, {111169, 37621, 40, 6}, {111210, 37627, 20, 6}, {111231, 37627, 25, 6},
-    {111257, 37633, 18, 6}, {111276, 37633, 23, 6}, {111300, 37639, 21, 6}, {111322, 37639, 26, 6},
-    {111349, 37645, 30, 6}, {111380, 37645, 35, 6}, {111416, 37651, 14, 6}, {111431, 37651, 40, 6},
-    {111472, 37657, 39, 6}, {111512, 37657, 45, 6}, {111558, 37663, 39, 6}, {111616, 37663, 45, 6},
-    {111662, 37669, 48, 6}, {111711, 37669, 55, 6}, {111767, 37675, 43, 6}, {111811, 37675, 50, 6},
-    {111862, 37681, 14, 6}, {111877, 37681, 43, 6}, {111921, 37687, 20, 6}, {111942, 37687, 25, 6},
-    {111968, 37693, 15, 5}, {111984, 37693, 20, 5}, {112005, 37698, 16, 3}, {112022, 37701, 20, 4},
-    {112043, 37705, 19, 5}, {112063, 37705, 13, 5}, {112077, 37705, 19, 5}, {112097, 37710, 21, 5},
-    {112128, 37715, 16, 6}, {112145, 37715, 17, 6}, {112163, 37721, 22, 6}, {112186, 37721, 23, 6},
-    {112210, 37727, 20, 6}, {112231, 37727, 21, 6}, {112253, 37733, 31, 5}, {112285, 37733, 34, 5},
-    {112320, 37738, 25, 5}, {112346, 37743, 12, 6}, {112359, 37749, 14, 5}, {112374, 37754, 17, 6},
-    {112392, 37760, 28, 6}, {112421, 37766, 17, 6}, {112439, 37772, 26, 6}, {112466, 37778, 25, 5},
-    {112492, 37783, 16, 5}, {112509, 37788, 22, 4}, {112532, 37792, 28, 5}, {112561, 37792, 26, 5},
-    {112588, 37792, 29, 5}, {112640, 37797, 19, 4}, {112660, 37801, 26, 4}, {112687, 37805, 18, 1},
-    {112706, 37806, 18, 1}, {112725, 37807, 18, 1}, {112744, 37808, 18, 1}, {112763, 37809, 18, 2},
-    {112782, 37811, 18, 2}, {112801, 37813, 18, 2}, {112820, 37815, 0, 0},
+    {2200, 0, 11, 1}, {112749, 0, 7, 1}, {112757, 1, 7, 1}, {112765, 2, 7, 1}, {106166, 3, 18, 7}, {112773, 10, 7, 1},
+    {26214, 11, 16, 8}, {26231, 11, 16, 8}, {26418, 19, 16, 8}, {26435, 19, 16, 8}, {26316, 27, 16, 8},
+    {26333, 27, 16, 8}, {29806, 35, 16, 8}, {29823, 35, 16, 8}, {29840, 43, 16, 8}, {29857, 43, 16, 8},
+    {29874, 51, 16, 8}, {29891, 51, 16, 8}, {29908, 59, 17, 8}, {29926, 59, 17, 8}, {26248, 67, 16, 8},
+    {26265, 67, 16, 8}, {26452, 75, 16, 8}, {26469, 75, 16, 8}, {26350, 83, 16, 8}, {26367, 83, 16, 8},
+    {29944, 91, 16, 8}, {29961, 91, 16, 8}, {29978, 99, 16, 8}, {29995, 99, 16, 8}, {30012, 107, 16, 8},
+    {30029, 107, 16, 8}, {30046, 115, 17, 8}, {30064, 115, 17, 8}, {26282, 123, 16, 8}, {26299, 123, 16, 8},
+    {26486, 131, 16, 8}, {26503, 131, 16, 8}, {26384, 139, 16, 8}, {26401, 139, 16, 8}, {30082, 147, 16, 8},
+    {30099, 147, 16, 8}, {30116, 155, 16, 8}, {30133, 155, 16, 8}, {30150, 163, 16, 8}, {30167, 163, 16, 8},
+    {30184, 171, 17, 8}, {30208, 171, 17, 8}, {42851, 179, 29, 1}, {112781, 179, 7, 1}, {42881, 180, 4, 2},
+    {42886, 182, 29, 4}, {42916, 186, 14, 5}, {42931, 191, 18, 6}, {42950, 197, 28, 6}, {43008, 203, 33, 6},
+    {43042, 209, 28, 6}, {43071, 215, 18, 6}, {103676, 221, 14, 4}, {103691, 225, 7, 5}, {102956, 230, 24, 6},
+    {103338, 230, 12, 6}, {103699, 230, 17, 6}, {102981, 236, 24, 6}, {103351, 236, 12, 6}, {103717, 236, 17, 6},
+    {103006, 242, 29, 6}, {103364, 242, 17, 6}, {103735, 242, 22, 6}, {103036, 248, 18, 6}, {103382, 248, 6, 6},
+    {103758, 248, 13, 6}, {103055, 254, 17, 6}, {103389, 254, 5, 6}, {103073, 260, 18, 6}, {103395, 260, 6, 6},
+    {103092, 266, 17, 7}, {103110, 273, 17, 7}, {103128, 280, 15, 7}, {103144, 287, 27, 6}, {103402, 287, 15, 6},
+    {113141, 293, 3, 6}, {103424, 299, 7, 6}, {113145, 305, 3, 6}, {103432, 311, 4, 6}, {103437, 317, 4, 6},
+    {103442, 323, 4, 6}, {43090, 329, 5, 5}, {43096, 334, 16, 6}, {43113, 340, 22, 7}, {43136, 347, 24, 7},
+    {43161, 354, 21, 7}, {43183, 361, 21, 7}, {43205, 368, 15, 7}, {103583, 375, 19, 7}, {103603, 382, 19, 7},
+    {103623, 389, 19, 7}, {103643, 396, 19, 7}, {103558, 403, 24, 6}, {103663, 409, 12, 7}, {103447, 416, 11, 7},
+    {103509, 416, 5, 7}, {103459, 423, 9, 7}, {103515, 423, 5, 7}, {103469, 430, 16, 7}, {103521, 430, 10, 7},
+    {103486, 437, 14, 7}, {103532, 437, 10, 7}, {103501, 444, 7, 7}, {103543, 444, 7, 7}, {103551, 451, 6, 7},
+    {103172, 458, 31, 7}, {103204, 465, 29, 7}, {103234, 472, 36, 7}, {103271, 479, 34, 7}, {103306, 486, 31, 7},
+    {112789, 493, 7, 1}, {21749, 494, 4, 1}, {112797, 494, 7, 1}, {21754, 495, 3, 3}, {21758, 498, 3, 7},
+    {21762, 512, 5, 8}, {21768, 520, 18, 9}, {78482, 529, 7, 10}, {106141, 529, 7, 10}, {21894, 539, 19, 10},
+    {55534, 549, 18, 10}, {78490, 549, 16, 10}, {106149, 549, 16, 10}, {21914, 559, 20, 10}, {15903, 569, 3, 10},
+    {21787, 579, 20, 9}, {21837, 588, 15, 10}, {21853, 598, 25, 10}, {21808, 608, 16, 9}, {57516, 617, 14, 10},
+    {21879, 627, 14, 10}, {21825, 637, 11, 9}, {112725, 646, 5, 1}, {97499, 647, 7, 6}, {97507, 653, 17, 7},
+    {97525, 660, 22, 8}, {97548, 668, 19, 9}, {97568, 677, 11, 7}, {97580, 684, 17, 8}, {97598, 692, 21, 9},
+    {97620, 701, 27, 9}, {97648, 710, 15, 9}, {97664, 719, 11, 9}, {97676, 728, 24, 9}, {97701, 737, 19, 9},
+    {97721, 746, 19, 10}, {97741, 756, 21, 11}, {97763, 767, 25, 11}, {97792, 778, 32, 11}, {97825, 789, 26, 11},
+    {97852, 800, 14, 8}, {97867, 808, 32, 9}, {97900, 817, 25, 9}, {97926, 826, 25, 9}, {97952, 835, 23, 9},
+    {97976, 844, 25, 9}, {98002, 853, 20, 9}, {98023, 862, 20, 9}, {98044, 871, 19, 8}, {98064, 879, 23, 9},
+    {98088, 888, 16, 9}, {98105, 897, 14, 9}, {98120, 906, 14, 9}, {98135, 915, 22, 9}, {98158, 924, 20, 9},
+    {98179, 933, 16, 9}, {98196, 942, 16, 10}, {98213, 952, 14, 11}, {98228, 963, 20, 11}, {98249, 974, 13, 11},
+    {98263, 985, 15, 11}, {98279, 996, 19, 9}, {98304, 1005, 19, 10}, {98324, 1024, 21, 11}, {98346, 1035, 14, 11},
+    {98361, 1046, 17, 11}, {98379, 1057, 23, 11}, {98403, 1068, 18, 11}, {98422, 1079, 17, 11}, {98440, 1090, 21, 8},
+    {98462, 1098, 12, 9}, {98475, 1107, 12, 10}, {98488, 1117, 15, 11}, {98504, 1128, 19, 11}, {98524, 1139, 12, 11},
+    {98537, 1150, 23, 11}, {98561, 1161, 16, 11}, {98578, 1172, 20, 11}, {98599, 1183, 13, 11}, {98613, 1194, 15, 11},
+    {98629, 1205, 14, 11}, {98644, 1216, 14, 11}, {98659, 1227, 22, 11}, {98682, 1238, 20, 11}, {98703, 1249, 19, 9},
+    {98723, 1258, 19, 10}, {98743, 1268, 21, 11}, {98765, 1279, 14, 11}, {98780, 1290, 23, 11}, {98816, 1301, 18, 11},
+    {98835, 1312, 17, 11}, {98853, 1323, 14, 8}, {35287, 1331, 4, 5}, {35292, 1331, 4, 5}, {27072, 1336, 9, 6},
+    {110037, 1342, 9, 5}, {56378, 1347, 10, 7}, {112731, 1354, 5, 1}, {17561, 1355, 11, 1}, {17573, 1355, 15, 1},
+    {112737, 1355, 5, 1}, {33713, 1356, 6, 3}, {33720, 1356, 18, 3}, {33739, 1359, 5, 5}, {33745, 1364, 9, 6},
+    {33597, 1370, 7, 8}, {33605, 1370, 7, 8}, {33613, 1378, 7, 8}, {33621, 1378, 7, 8}, {52981, 1378, 3, 8},
+    {33629, 1386, 7, 8}, {33637, 1386, 7, 8}, {52893, 1386, 10, 8}, {33663, 1394, 7, 8}, {33671, 1394, 7, 8},
+    {52937, 1394, 10, 8}, {33645, 1402, 8, 8}, {33654, 1402, 8, 8}, {33679, 1410, 8, 8}, {33688, 1410, 8, 8},
+    {33697, 1418, 7, 8}, {33705, 1418, 7, 8}, {42535, 1426, 7, 8}, {42543, 1426, 7, 8}, {42551, 1434, 7, 8},
+    {42559, 1434, 7, 8}, {43372, 1442, 7, 8}, {43380, 1442, 7, 8}, {34709, 1450, 3, 8}, {34713, 1450, 3, 8},
+    {104693, 1450, 9, 8}, {104703, 1458, 10, 9}, {33755, 1467, 3, 8}, {33759, 1467, 3, 8}, {43250, 1475, 11, 10},
+    {35380, 1485, 7, 8}, {35388, 1485, 12, 8}, {33763, 1493, 7, 8}, {33792, 1493, 20, 8}, {104714, 1501, 8, 10},
+    {26112, 1511, 16, 11}, {26129, 1511, 16, 11}, {52753, 1511, 11, 11}, {55607, 1511, 18, 11}, {26146, 1522, 16, 11},
+    {26163, 1522, 16, 11}, {53042, 1522, 11, 11}, {55626, 1522, 18, 11}, {26180, 1536, 16, 11}, {26197, 1536, 16, 11},
+    {52765, 1536, 11, 11}, {55645, 1536, 18, 11}, {29301, 1547, 19, 11}, {29321, 1558, 19, 11}, {29341, 1569, 19, 11},
+    {26702, 1580, 4, 6}, {26707, 1580, 4, 6}, {26712, 1586, 8, 8}, {26721, 1586, 8, 8}, {26730, 1594, 8, 8},
+    {26739, 1594, 8, 8}, {55870, 1594, 10, 8}, {26766, 1602, 8, 8}, {26775, 1602, 8, 8}, {26748, 1610, 8, 8},
+    {26757, 1610, 8, 8}, {32065, 1618, 12, 9}, {32078, 1618, 12, 9}, {32091, 1627, 12, 9}, {32104, 1627, 12, 9},
+    {52929, 1627, 7, 9}, {32117, 1636, 12, 9}, {32130, 1636, 12, 9}, {32143, 1645, 12, 9}, {32156, 1645, 12, 9},
+    {32169, 1654, 12, 9}, {32182, 1654, 12, 9}, {32195, 1663, 12, 9}, {32208, 1663, 12, 9}, {32221, 1672, 12, 9},
+    {32234, 1672, 12, 9}, {52948, 1672, 7, 9}, {32256, 1681, 12, 9}, {32269, 1681, 12, 9}, {32282, 1690, 12, 9},
+    {32295, 1690, 12, 9}, {32308, 1699, 12, 9}, {32321, 1699, 12, 9}, {32334, 1708, 12, 9}, {32347, 1708, 12, 9},
+    {32360, 1717, 12, 9}, {32373, 1717, 12, 9}, {52992, 1717, 7, 9}, {32386, 1726, 12, 9}, {32399, 1726, 12, 9},
+    {32412, 1735, 12, 9}, {32425, 1735, 12, 9}, {32438, 1744, 12, 9}, {32451, 1744, 12, 9}, {33454, 1753, 12, 9},
+    {33467, 1753, 12, 9}, {33480, 1762, 12, 9}, {33493, 1762, 12, 9}, {33506, 1771, 12, 9}, {33519, 1771, 12, 9},
+    {33376, 1780, 12, 9}, {33389, 1780, 12, 9}, {33402, 1789, 12, 9}, {33415, 1789, 12, 9}, {33428, 1798, 12, 9},
+    {33441, 1798, 12, 9}, {27082, 1807, 9, 5}, {27136, 1812, 35, 6}, {27172, 1812, 38, 6}, {82476, 1812, 11, 6},
+    {27211, 1818, 33, 6}, {27245, 1818, 36, 6}, {27282, 1824, 9, 6}, {27292, 1824, 15, 6}, {82351, 1824, 11, 6},
+    {27308, 1830, 19, 6}, {27328, 1830, 18, 6}, {27597, 1836, 31, 7}, {27560, 1843, 36, 7}, {27347, 1850, 8, 6},
+    {27356, 1850, 17, 6}, {27374, 1856, 6, 6}, {27381, 1856, 15, 6}, {28586, 1862, 17, 7}, {28604, 1869, 20, 7},
+    {28625, 1876, 17, 7}, {28643, 1883, 20, 7}, {27397, 1890, 6, 6}, {27404, 1890, 13, 6}, {27418, 1896, 8, 6},
+    {27427, 1896, 17, 6}, {27445, 1902, 16, 6}, {27462, 1902, 19, 6}, {27648, 1908, 28, 7}, {27677, 1915, 33, 7},
+    {27711, 1922, 28, 7}, {27740, 1929, 36, 7}, {27777, 1936, 36, 7}, {27814, 1943, 36, 7}, {27851, 1950, 36, 7},
+    {27888, 1957, 44, 7}, {27933, 1964, 44, 7}, {27978, 1971, 40, 7}, {28019, 1978, 28, 7}, {28048, 1985, 36, 7},
+    {28085, 1992, 36, 7}, {28160, 1999, 36, 7}, {28197, 2006, 36, 7}, {28234, 2013, 39, 7}, {28274, 2020, 39, 7},
+    {28314, 2027, 39, 7}, {28354, 2034, 30, 7}, {28385, 2048, 38, 7}, {28424, 2055, 38, 7}, {28463, 2062, 38, 7},
+    {28502, 2069, 41, 7}, {28544, 2076, 41, 7}, {27482, 2083, 19, 6}, {27502, 2083, 20, 6}, {27523, 2089, 17, 6},
+    {27541, 2089, 18, 6}, {27092, 2095, 9, 5}, {28794, 2100, 36, 8}, {28831, 2100, 46, 8}, {28878, 2108, 38, 8},
+    {28917, 2108, 48, 8}, {28724, 2116, 8, 8}, {28733, 2116, 23, 8}, {28757, 2124, 10, 8}, {28768, 2124, 25, 8},
+    {28672, 2132, 18, 8}, {28691, 2132, 32, 8}, {28966, 2140, 29, 8}, {28996, 2140, 40, 8}, {31447, 2148, 3, 8},
+    {30243, 2156, 7, 5}, {30251, 2161, 18, 6}, {30270, 2167, 12, 7}, {30283, 2174, 12, 8}, {30296, 2174, 38, 8},
+    {30335, 2182, 12, 8}, {30348, 2182, 38, 8}, {30387, 2190, 14, 7}, {30402, 2197, 13, 8}, {30416, 2197, 35, 8},
+    {82363, 2197, 12, 8}, {30452, 2205, 13, 8}, {30466, 2205, 35, 8}, {82376, 2205, 12, 8}, {30502, 2213, 22, 7},
+    {30525, 2220, 40, 8}, {30566, 2220, 50, 8}, {82488, 2220, 15, 8}, {30617, 2228, 40, 8}, {30658, 2228, 50, 8},
+    {82504, 2228, 15, 8}, {30720, 2236, 11, 7}, {30732, 2243, 31, 8}, {30764, 2243, 28, 8}, {30793, 2251, 31, 8},
+    {30825, 2251, 28, 8}, {30854, 2259, 14, 7}, {34717, 2266, 35, 8}, {34753, 2274, 15, 9}, {34769, 2283, 20, 9},
+    {34816, 2292, 40, 8}, {34857, 2300, 20, 9}, {34878, 2309, 25, 9}, {30869, 2318, 17, 7}, {30887, 2325, 36, 8},
+    {30924, 2333, 36, 8}, {34904, 2341, 12, 7}, {34917, 2348, 33, 8}, {34951, 2356, 12, 9}, {34964, 2365, 38, 8},
+    {35003, 2373, 17, 9}, {30961, 2382, 17, 6}, {30979, 2388, 22, 7}, {33899, 2395, 36, 8}, {33936, 2403, 36, 9},
+    {33973, 2403, 38, 9}, {35021, 2412, 36, 9}, {35058, 2412, 38, 9}, {35097, 2421, 36, 9}, {35134, 2421, 38, 9},
+    {35173, 2430, 36, 9}, {35210, 2430, 38, 9}, {31002, 2439, 36, 8}, {31039, 2447, 39, 9}, {31079, 2447, 49, 9},
+    {31129, 2456, 36, 9}, {31166, 2456, 38, 9}, {31232, 2465, 36, 9}, {31269, 2465, 38, 9}, {34012, 2474, 36, 9},
+    {34049, 2474, 38, 9}, {31308, 2483, 24, 7}, {31333, 2490, 24, 7}, {31358, 2497, 28, 8}, {31387, 2505, 26, 9},
+    {31414, 2505, 32, 9}, {31451, 2514, 4, 5}, {31456, 2519, 5, 5}, {35774, 2524, 6, 5}, {31462, 2529, 15, 5},
+    {31478, 2529, 23, 5}, {31502, 2534, 14, 5}, {31517, 2534, 22, 5}, {35781, 2539, 13, 5}, {35795, 2539, 21, 5},
+    {35817, 2544, 16, 6}, {35840, 2544, 25, 6}, {35866, 2550, 16, 6}, {35883, 2550, 25, 6}, {35909, 2560, 16, 6},
+    {35926, 2560, 25, 6}, {35952, 2566, 16, 6}, {35969, 2566, 25, 6}, {35995, 2572, 16, 6}, {36012, 2572, 25, 6},
+    {36038, 2578, 16, 6}, {36055, 2578, 25, 6}, {99191, 2584, 19, 8}, {99176, 2592, 14, 8}, {99228, 2600, 17, 8},
+    {99211, 2608, 16, 7}, {110225, 2615, 12, 5}, {110238, 2620, 10, 6}, {110249, 2626, 17, 7}, {34088, 2633, 6, 3},
+    {34095, 2636, 6, 7}, {34102, 2643, 9, 10}, {34112, 2643, 20, 10}, {34133, 2653, 13, 11}, {34147, 2653, 29, 11},
+    {34177, 2664, 13, 11}, {34191, 2664, 29, 11}, {34221, 2675, 14, 11}, {34236, 2675, 29, 11}, {34266, 2686, 17, 10},
+    {34304, 2686, 23, 10}, {34328, 2696, 9, 10}, {34338, 2696, 18, 10}, {34357, 2706, 10, 11}, {34368, 2706, 28, 11},
+    {34397, 2717, 10, 13}, {34408, 2717, 25, 13}, {34434, 2730, 8, 13}, {34443, 2730, 12, 13}, {34456, 2743, 8, 13},
+    {34465, 2743, 12, 13}, {34478, 2756, 8, 13}, {34487, 2756, 12, 13}, {34500, 2769, 8, 13}, {34509, 2769, 12, 13},
+    {34522, 2782, 8, 13}, {34531, 2782, 12, 13}, {34544, 2795, 8, 13}, {34553, 2795, 12, 13}, {34566, 2808, 8, 13},
+    {34575, 2808, 12, 13}, {34588, 2821, 8, 13}, {34597, 2821, 12, 13}, {34610, 2834, 8, 13}, {34619, 2834, 12, 13},
+    {34632, 2847, 8, 13}, {34641, 2847, 12, 13}, {59904, 2860, 31, 11}, {17589, 2871, 6, 3}, {17596, 2871, 18, 3},
+    {17615, 2874, 5, 5}, {17621, 2874, 5, 5}, {21606, 2879, 19, 7}, {21626, 2879, 21, 7}, {21648, 2886, 25, 7},
+    {21674, 2886, 28, 7}, {21703, 2893, 21, 7}, {21725, 2893, 23, 7}, {17627, 2900, 4, 6}, {17632, 2900, 10, 6},
+    {16068, 2906, 3, 7}, {16072, 2906, 13, 7}, {83736, 2906, 24, 7}, {110934, 2906, 6, 7}, {16024, 2913, 8, 7},
+    {16033, 2913, 11, 7}, {53075, 2913, 9, 7}, {55396, 2913, 16, 7}, {79722, 2913, 14, 7}, {81840, 2913, 11, 7},
+    {81852, 2913, 3, 7}, {83761, 2913, 42, 7}, {104871, 2913, 8, 7}, {110917, 2913, 16, 7}, {21098, 2920, 10, 5},
+    {109734, 2925, 12, 6}, {21109, 2931, 11, 7}, {105630, 2931, 11, 7}, {21121, 2938, 24, 7}, {105642, 2938, 24, 7},
+    {25292, 2945, 27, 8}, {25320, 2953, 7, 9}, {109747, 2953, 7, 9}, {25328, 2962, 7, 9}, {25336, 2971, 7, 9},
+    {109755, 2980, 16, 6}, {53583, 2986, 2, 7}, {82250, 2986, 5, 7}, {82532, 2986, 8, 7}, {84334, 2986, 31, 7},
+    {104723, 2986, 11, 7}, {111765, 2986, 14, 7}, {109772, 2993, 10, 7}, {25344, 3000, 10, 8}, {25355, 3008, 10, 8},
+    {25366, 3016, 10, 8}, {25377, 3024, 10, 8}, {105667, 3024, 10, 8}, {25388, 3032, 10, 8}, {25399, 3040, 10, 8},
+    {25410, 3048, 10, 8}, {25421, 3056, 10, 8}, {25432, 3072, 10, 8}, {25443, 3080, 10, 8}, {25454, 3088, 10, 8},
+    {25465, 3096, 10, 8}, {25476, 3104, 10, 8}, {25487, 3112, 10, 8}, {25498, 3120, 10, 8}, {25509, 3128, 10, 8},
+    {25520, 3136, 10, 8}, {25531, 3144, 10, 8}, {25542, 3152, 10, 8}, {25553, 3160, 10, 8}, {109783, 3168, 10, 7},
+    {0, 3175, 5, 8}, {21146, 3175, 10, 8}, {56284, 3175, 9, 8}, {81856, 3175, 10, 8}, {85372, 3175, 4, 8},
+    {104537, 3175, 8, 8}, {104648, 3175, 8, 8}, {21157, 3183, 10, 8}, {21168, 3191, 10, 8}, {21179, 3199, 10, 8},
+    {21190, 3207, 10, 8}, {21201, 3215, 10, 8}, {12, 3223, 5, 8}, {21212, 3223, 10, 8}, {54079, 3223, 8, 8},
+    {81867, 3223, 10, 8}, {85382, 3223, 4, 8}, {104666, 3223, 8, 8}, {109721, 3231, 12, 6}, {21223, 3237, 15, 7},
+    {53364, 3237, 11, 7}, {53376, 3237, 10, 7}, {79754, 3237, 16, 7}, {81878, 3237, 13, 7}, {84366, 3237, 32, 7},
+    {103911, 3237, 13, 7}, {104902, 3237, 10, 7}, {111749, 3237, 15, 7}, {26924, 3244, 22, 7}, {84536, 3244, 45, 7},
+    {26947, 3251, 20, 7}, {81968, 3251, 22, 7}, {84582, 3251, 43, 7}, {53387, 3258, 14, 8}, {53402, 3258, 12, 8},
+    {81892, 3258, 15, 8}, {84626, 3258, 33, 8}, {104913, 3258, 12, 8}, {112332, 3258, 17, 8}, {53415, 3266, 14, 8},
+    {53430, 3266, 12, 8}, {54142, 3266, 5, 8}, {79771, 3266, 18, 8}, {81920, 3266, 15, 8}, {84660, 3266, 33, 8},
+    {103936, 3266, 15, 8}, {104926, 3266, 12, 8}, {112350, 3266, 17, 8}, {53443, 3274, 14, 8}, {53458, 3274, 12, 8},
+    {54148, 3274, 5, 8}, {79790, 3274, 18, 8}, {81936, 3274, 15, 8}, {84694, 3274, 33, 8}, {103952, 3274, 15, 8},
+    {104939, 3274, 12, 8}, {112368, 3274, 17, 8}, {53471, 3282, 14, 8}, {53486, 3282, 12, 8}, {54154, 3282, 5, 8},
+    {79809, 3282, 18, 8}, {81952, 3282, 15, 8}, {84728, 3282, 33, 8}, {103968, 3282, 15, 8}, {104960, 3282, 12, 8},
+    {112386, 3282, 17, 8}, {29484, 3290, 8, 7}, {53622, 3290, 3, 7}, {55583, 3290, 16, 7}, {55027, 3297, 19, 9},
+    {75864, 3297, 7, 9}, {108417, 3306, 25, 9}, {15982, 3315, 9, 9}, {15992, 3315, 9, 9}, {16002, 3324, 21, 9},
+    {26802, 3333, 18, 9}, {26821, 3342, 24, 9}, {107996, 3351, 17, 9}, {14239, 3360, 23, 6}, {14263, 3366, 28, 7},
+    {17643, 3373, 5, 8}, {54160, 3381, 6, 9}, {81178, 3381, 20, 9}, {82783, 3381, 22, 9}, {105033, 3381, 15, 9},
+    {105604, 3381, 14, 9}, {14316, 3390, 7, 9}, {81199, 3390, 10, 9}, {82806, 3390, 31, 9}, {103838, 3390, 7, 9},
+    {104791, 3390, 7, 9}, {20862, 3399, 7, 9}, {20870, 3399, 20, 9}, {82838, 3399, 31, 9}, {14324, 3408, 7, 9},
+    {79588, 3408, 23, 9}, {82158, 3408, 7, 9}, {82870, 3408, 31, 9}, {104799, 3408, 7, 9}, {14998, 3417, 8, 9},
+    {53233, 3417, 9, 9}, {79612, 3417, 25, 9}, {82166, 3417, 8, 9}, {82902, 3417, 33, 9}, {104807, 3417, 8, 9},
+    {24805, 3426, 20, 9}, {29463, 3435, 10, 9}, {29474, 3435, 9, 9}, {54167, 3435, 8, 9}, {81210, 3435, 4, 9},
+    {85062, 3435, 27, 9}, {105619, 3435, 10, 9}, {111542, 3435, 13, 9}, {29384, 3444, 4, 9}, {29389, 3444, 4, 9},
+    {85090, 3444, 37, 9}, {29493, 3453, 10, 9}, {29504, 3453, 10, 9}, {85128, 3453, 57, 9}, {105049, 3453, 11, 9},
+    {29394, 3462, 10, 9}, {29405, 3462, 9, 9}, {53614, 3462, 7, 9}, {82208, 3462, 13, 9}, {82222, 3462, 13, 9},
+    {82236, 3462, 13, 9}, {82400, 3462, 14, 9}, {82432, 3462, 14, 9}, {82447, 3462, 14, 9}, {85186, 3462, 25, 9},
+    {103846, 3462, 16, 9}, {103863, 3462, 16, 9}, {103880, 3462, 16, 9}, {104860, 3462, 10, 9}, {112203, 3462, 13, 9},
+    {25143, 3471, 10, 9}, {53261, 3471, 12, 9}, {54124, 3471, 5, 9}, {79638, 3471, 27, 9}, {81215, 3471, 13, 9},
+    {82175, 3471, 10, 9}, {84175, 3471, 35, 9}, {104827, 3471, 10, 9}, {25154, 3480, 10, 9}, {53274, 3480, 12, 9},
+    {54130, 3480, 5, 9}, {79666, 3480, 27, 9}, {81229, 3480, 13, 9}, {82186, 3480, 10, 9}, {84211, 3480, 35, 9},
+    {104838, 3480, 10, 9}, {25165, 3489, 10, 9}, {53287, 3489, 12, 9}, {54136, 3489, 5, 9}, {79694, 3489, 27, 9},
+    {81243, 3489, 13, 9}, {82197, 3489, 10, 9}, {84247, 3489, 35, 9}, {104849, 3489, 10, 9}, {25176, 3498, 10, 9},
+    {53248, 3498, 12, 9}, {81257, 3498, 13, 9}, {85212, 3498, 35, 9}, {104816, 3498, 10, 9}, {33813, 3507, 14, 9},
+    {33828, 3507, 27, 9}, {53300, 3507, 16, 9}, {53317, 3507, 14, 9}, {81271, 3507, 17, 9}, {33856, 3516, 14, 9},
+    {33871, 3516, 27, 9}, {53332, 3516, 16, 9}, {53349, 3516, 14, 9}, {81289, 3516, 17, 9}, {14567, 3525, 5, 8},
+    {14573, 3533, 14, 9}, {53072, 3533, 2, 9}, {81307, 3533, 13, 9}, {17649, 3542, 5, 8}, {56921, 3542, 6, 8},
+    {14336, 3550, 11, 9}, {14348, 3550, 20, 9}, {105366, 3550, 13, 9}, {14369, 3559, 11, 9}, {14381, 3559, 20, 9},
+    {81321, 3559, 16, 9}, {105380, 3559, 13, 9}, {17270, 3568, 14, 9}, {17285, 3568, 20, 9}, {105394, 3568, 13, 9},
+    {17306, 3584, 14, 9}, {17321, 3584, 20, 9}, {81338, 3584, 16, 9}, {105408, 3584, 13, 9}, {17342, 3593, 12, 9},
+    {17355, 3593, 21, 9}, {81355, 3593, 17, 9}, {105422, 3593, 14, 9}, {15052, 3602, 15, 9}, {15068, 3602, 21, 9},
+    {81373, 3602, 17, 9}, {105437, 3602, 14, 9}, {15090, 3611, 6, 9}, {81408, 3611, 18, 9}, {84837, 3611, 46, 9},
+    {112622, 3611, 9, 9}, {17163, 3620, 5, 9}, {57052, 3620, 8, 9}, {84884, 3620, 36, 9}, {112603, 3620, 8, 9},
+    {17169, 3629, 6, 9}, {57061, 3629, 9, 9}, {84921, 3629, 40, 9}, {112612, 3629, 9, 9}, {14447, 3638, 5, 8},
+    {53626, 3638, 6, 8}, {82944, 3638, 7, 8}, {14453, 3646, 10, 9}, {82952, 3646, 12, 9}, {112071, 3646, 7, 9},
+    {14464, 3655, 16, 9}, {53633, 3655, 10, 9}, {82965, 3655, 19, 9}, {109157, 3655, 11, 9}, {112042, 3655, 13, 9},
+    {14481, 3664, 19, 9}, {53644, 3664, 13, 9}, {82985, 3664, 22, 9}, {109169, 3664, 14, 9}, {112128, 3664, 16, 9},
+    {14501, 3673, 28, 9}, {53658, 3673, 22, 9}, {83008, 3673, 33, 9}, {109184, 3673, 25, 9}, {14530, 3682, 16, 9},
+    {53681, 3682, 12, 9}, {83042, 3682, 21, 9}, {109210, 3682, 13, 9}, {112145, 3682, 15, 9}, {14547, 3691, 19, 9},
+    {53694, 3691, 13, 9}, {83064, 3691, 22, 9}, {109224, 3691, 14, 9}, {112176, 3691, 16, 9}, {14723, 3700, 5, 8},
+    {55567, 3708, 15, 9}, {57505, 3708, 10, 9}, {78451, 3708, 1, 9}, {78507, 3708, 13, 9}, {83087, 3708, 21, 9},
+    {106050, 3708, 13, 9}, {14729, 3717, 16, 9}, {14746, 3726, 11, 9}, {83109, 3726, 20, 9}, {108857, 3726, 12, 9},
+    {112056, 3726, 14, 9}, {14758, 3735, 13, 9}, {83130, 3735, 22, 9}, {108870, 3735, 14, 9}, {112079, 3735, 16, 9},
+    {14772, 3744, 11, 9}, {83153, 3744, 20, 9}, {108885, 3744, 12, 9}, {112161, 3744, 14, 9}, {14784, 3753, 16, 9},
+    {83174, 3753, 25, 9}, {108898, 3753, 17, 9}, {14801, 3762, 17, 9}, {109431, 3762, 18, 9}, {14819, 3771, 19, 9},
+    {14848, 3780, 29, 9}, {109450, 3780, 31, 9}, {81427, 3789, 21, 9}, {17436, 3798, 6, 9}, {17443, 3798, 17, 9},
+    {81449, 3798, 16, 9}, {84510, 3798, 25, 9}, {109482, 3798, 17, 9}, {17239, 3807, 10, 9}, {17250, 3807, 19, 9},
+    {81466, 3807, 15, 9}, {83200, 3807, 27, 9}, {108916, 3807, 18, 9}, {17655, 3816, 6, 9}, {17662, 3825, 12, 10},
+    {17750, 3835, 16, 11}, {17767, 3846, 16, 11}, {17784, 3857, 16, 11}, {17801, 3868, 19, 11}, {17821, 3879, 30, 11},
+    {17852, 3890, 30, 11}, {17883, 3901, 30, 11}, {17920, 3912, 30, 11}, {17675, 3923, 11, 10}, {110080, 3933, 20, 11},
+    {17951, 3944, 19, 11}, {53831, 3944, 7, 11}, {17971, 3955, 20, 11}, {53708, 3955, 17, 11}, {53738, 3955, 8, 11},
+    {109239, 3955, 18, 11}, {17992, 3966, 23, 11}, {18016, 3977, 19, 11}, {53793, 3977, 7, 11}, {81482, 3977, 18, 11},
+    {109303, 3977, 8, 11}, {111735, 3977, 13, 11}, {18036, 3988, 19, 11}, {18056, 3999, 23, 11}, {53726, 3999, 11, 11},
+    {112096, 3999, 17, 11}, {18080, 4010, 27, 11}, {18108, 4021, 28, 11}, {26873, 4032, 26, 11}, {53778, 4032, 14, 11},
+    {109258, 4032, 15, 11}, {54020, 4043, 15, 11}, {31995, 4054, 29, 11}, {32025, 4065, 29, 11}, {53760, 4065, 17, 11},
+    {109274, 4065, 28, 11}, {36081, 4076, 22, 11}, {36104, 4096, 18, 11}, {26900, 4107, 23, 11}, {32055, 4118, 9, 11},
+    {57133, 4129, 9, 11}, {110347, 4140, 16, 11}, {109312, 4151, 16, 11}, {56294, 4162, 21, 11}, {36123, 4173, 22, 11},
+    {36146, 4184, 26, 11}, {110364, 4195, 22, 11}, {110328, 4206, 18, 11}, {110317, 4217, 10, 11},
+    {57221, 4228, 13, 11}, {57367, 4239, 10, 11}, {57378, 4250, 18, 11}, {36352, 4261, 24, 11}, {36377, 4272, 21, 11},
+    {42567, 4283, 10, 11}, {43356, 4294, 15, 11}, {44971, 4305, 26, 11}, {17687, 4316, 11, 10}, {18137, 4326, 26, 11},
+    {53816, 4326, 14, 11}, {18164, 4337, 25, 11}, {53839, 4337, 13, 11}, {18190, 4348, 27, 11}, {53853, 4348, 15, 11},
+    {18218, 4359, 23, 11}, {53869, 4359, 11, 11}, {18242, 4370, 24, 11}, {53881, 4370, 12, 11}, {18267, 4381, 28, 11},
+    {18296, 4392, 29, 11}, {53894, 4392, 17, 11}, {18326, 4403, 20, 11}, {18347, 4414, 28, 11}, {53912, 4414, 16, 11},
+    {18376, 4425, 28, 11}, {53929, 4425, 16, 11}, {18432, 4436, 25, 11}, {53986, 4436, 13, 11}, {108935, 4436, 16, 11},
+    {18458, 4447, 30, 11}, {53946, 4447, 18, 11}, {109114, 4447, 19, 11}, {111675, 4447, 24, 11}, {18489, 4458, 29, 11},
+    {18519, 4469, 26, 11}, {53801, 4469, 14, 11}, {56019, 4469, 29, 11}, {81501, 4469, 23, 11}, {108952, 4469, 26, 11},
+    {18546, 4480, 27, 11}, {55947, 4480, 21, 11}, {18574, 4491, 30, 11}, {55969, 4491, 24, 11}, {18605, 4502, 30, 11},
+    {55994, 4502, 24, 11}, {18636, 4513, 26, 11}, {56076, 4513, 20, 11}, {18663, 4524, 28, 11}, {55924, 4524, 22, 11},
+    {18692, 4535, 32, 11}, {56049, 4535, 26, 11}, {18725, 4546, 31, 11}, {56097, 4546, 25, 11}, {18757, 4557, 30, 11},
+    {56123, 4557, 24, 11}, {18788, 4568, 26, 11}, {56148, 4568, 20, 11}, {18815, 4579, 32, 11}, {56169, 4579, 26, 11},
+    {18848, 4590, 28, 11}, {56196, 4590, 22, 11}, {18877, 4608, 32, 11}, {56219, 4608, 26, 11}, {18944, 4619, 32, 11},
+    {18977, 4630, 25, 11}, {19003, 4641, 20, 11}, {109863, 4652, 24, 11}, {42763, 4663, 29, 11}, {42793, 4674, 28, 11},
+    {32464, 4685, 32, 11}, {53965, 4685, 20, 11}, {109134, 4685, 22, 11}, {112217, 4685, 26, 11}, {43221, 4696, 28, 11},
+    {56603, 4707, 23, 11}, {56713, 4718, 34, 11}, {56765, 4729, 18, 11}, {56784, 4740, 25, 11}, {56832, 4751, 24, 11},
+    {17699, 4762, 12, 10}, {19024, 4772, 25, 11}, {19050, 4783, 24, 11}, {19075, 4794, 21, 11}, {19097, 4805, 20, 11},
+    {19118, 4816, 17, 11}, {19136, 4827, 24, 11}, {52850, 4827, 9, 11}, {19161, 4838, 23, 11}, {16153, 4849, 4, 11},
+    {16158, 4849, 16, 11}, {29152, 4860, 15, 11}, {110129, 4871, 25, 11}, {56367, 4882, 10, 11}, {57344, 4893, 22, 11},
+    {57071, 4904, 27, 11}, {81525, 4904, 17, 11}, {110387, 4915, 37, 11}, {110425, 4926, 37, 11},
+    {110463, 4937, 37, 11}, {52452, 4948, 23, 11}, {52476, 4948, 11, 11}, {52488, 4959, 23, 11}, {52512, 4959, 11, 11},
+    {52524, 4970, 23, 11}, {52548, 4970, 11, 11}, {17712, 4981, 11, 10}, {19185, 4991, 16, 11}, {17724, 5002, 12, 10},
+    {19202, 5012, 24, 11}, {19227, 5023, 28, 11}, {17737, 5034, 12, 10}, {19256, 5044, 30, 11}, {19287, 5055, 31, 11},
+    {19319, 5066, 32, 11}, {19352, 5077, 30, 11}, {19383, 5088, 32, 11}, {19416, 5099, 32, 11}, {52560, 5120, 12, 10},
+    {52573, 5130, 16, 11}, {17099, 5141, 12, 9}, {84132, 5141, 21, 9}, {109598, 5141, 13, 9}, {17112, 5150, 10, 9},
+    {84154, 5150, 20, 9}, {109612, 5150, 12, 9}, {17123, 5159, 15, 10}, {81543, 5159, 12, 10}, {17139, 5169, 15, 10},
+    {109716, 5169, 4, 10}, {17155, 5179, 7, 10}, {42822, 5189, 28, 9}, {54000, 5189, 19, 9}, {56437, 5189, 25, 9},
+    {81556, 5189, 22, 9}, {108979, 5189, 24, 9}, {83727, 5198, 8, 8}, {16761, 5206, 16, 10}, {16778, 5206, 23, 10},
+    {81579, 5206, 21, 10}, {105472, 5206, 19, 10}, {16802, 5216, 15, 10}, {16818, 5216, 22, 10}, {81601, 5216, 20, 10},
+    {105492, 5216, 18, 10}, {16841, 5226, 13, 10}, {16855, 5226, 32, 10}, {81622, 5226, 20, 10}, {105511, 5226, 26, 10},
+    {16896, 5236, 13, 10}, {16910, 5236, 32, 10}, {105538, 5236, 26, 10}, {16943, 5246, 16, 10}, {16960, 5246, 27, 10},
+    {81643, 5246, 21, 10}, {105565, 5246, 19, 10}, {16988, 5256, 15, 10}, {17004, 5256, 26, 10}, {81665, 5256, 20, 10},
+    {105585, 5256, 18, 10}, {17031, 5266, 6, 11}, {56627, 5266, 9, 11}, {109643, 5266, 7, 11}, {17038, 5277, 19, 11},
+    {56637, 5277, 22, 11}, {109651, 5277, 22, 11}, {17058, 5288, 7, 11}, {56660, 5288, 10, 11}, {109674, 5288, 8, 11},
+    {112525, 5288, 10, 11}, {17066, 5299, 6, 11}, {56671, 5299, 9, 11}, {109683, 5299, 7, 11}, {17073, 5310, 9, 11},
+    {56681, 5310, 12, 11}, {109691, 5310, 10, 11}, {17083, 5321, 15, 11}, {56694, 5321, 18, 11}, {109702, 5321, 13, 11},
+    {14292, 5332, 3, 8}, {14296, 5332, 3, 8}, {19449, 5340, 3, 8}, {19456, 5340, 3, 8}, {14300, 5348, 3, 8},
+    {14304, 5348, 3, 8}, {52688, 5348, 8, 8}, {26968, 5356, 11, 8}, {17176, 5364, 12, 8}, {56928, 5364, 15, 8},
+    {81686, 5364, 8, 8}, {84962, 5364, 10, 8}, {26980, 5372, 14, 8}, {81695, 5372, 10, 8}, {84973, 5372, 12, 8},
+    {85528, 5372, 11, 8}, {26995, 5380, 14, 8}, {54106, 5380, 5, 8}, {81706, 5380, 10, 8}, {84992, 5380, 12, 8},
+    {85479, 5380, 11, 8}, {27010, 5388, 14, 8}, {54112, 5388, 5, 8}, {81717, 5388, 10, 8}, {85005, 5388, 12, 8},
+    {85504, 5388, 11, 8}, {27025, 5396, 14, 8}, {54118, 5396, 5, 8}, {81728, 5396, 10, 8}, {85018, 5396, 12, 8},
+    {85516, 5396, 11, 8}, {35249, 5404, 18, 8}, {56944, 5404, 21, 8}, {81739, 5404, 14, 8}, {35268, 5412, 18, 8},
+    {56966, 5412, 21, 8}, {81754, 5412, 14, 8}, {110271, 5420, 19, 7}, {55600, 5427, 6, 8}, {81769, 5427, 20, 8},
+    {105076, 5427, 3, 8}, {14308, 5435, 3, 8}, {14312, 5435, 3, 8}, {81790, 5435, 7, 8}, {53037, 5443, 4, 8},
+    {81798, 5443, 20, 8}, {105061, 5443, 14, 8}, {16137, 5451, 7, 8}, {16145, 5451, 7, 8}, {56995, 5459, 11, 8},
+    {81819, 5459, 20, 8}, {105080, 5459, 3, 8}, {24787, 5467, 8, 8}, {24796, 5467, 8, 8}, {54453, 5475, 6, 8},
+    {54299, 5483, 18, 10}, {54396, 5483, 21, 10}, {54318, 5493, 25, 10}, {54344, 5503, 24, 10}, {54369, 5513, 26, 10},
+    {54418, 5513, 34, 10}, {54229, 5523, 4, 9}, {54234, 5523, 13, 9}, {54272, 5532, 26, 10}, {55063, 5542, 27, 10},
+    {55091, 5552, 21, 10}, {100114, 5562, 16, 11}, {100534, 5573, 16, 11}, {100551, 5584, 13, 11},
+    {100565, 5595, 22, 11}, {100588, 5606, 21, 11}, {61562, 5617, 12, 9}, {62737, 5632, 11, 9}, {62725, 5641, 11, 9},
+    {63759, 5650, 12, 9}, {62151, 5659, 14, 9}, {62697, 5668, 10, 9}, {64194, 5677, 10, 9}, {63687, 5686, 9, 9},
+    {64139, 5695, 8, 9}, {63606, 5704, 11, 9}, {63618, 5713, 15, 9}, {63785, 5722, 14, 9}, {61598, 5731, 9, 9},
+    {64205, 5740, 17, 9}, {61920, 5749, 13, 9}, {59263, 5758, 8, 9}, {63772, 5767, 12, 9}, {62166, 5776, 10, 9},
+    {62686, 5785, 10, 9}, {61468, 5794, 10, 10}, {61440, 5804, 7, 10}, {62406, 5814, 22, 10}, {61243, 5824, 16, 10},
+    {62237, 5834, 14, 10}, {63665, 5844, 12, 10}, {61226, 5854, 16, 10}, {64050, 5864, 8, 10}, {62103, 5874, 14, 10},
+    {61863, 5884, 20, 10}, {64171, 5894, 11, 10}, {64030, 5904, 19, 10}, {62294, 5914, 13, 10}, {63800, 5924, 15, 10},
+    {62749, 5934, 11, 10}, {63351, 5944, 8, 9}, {63341, 5953, 9, 9}, {63324, 5962, 8, 9}, {61899, 5971, 10, 9},
+    {62609, 5980, 18, 9}, {61402, 5989, 11, 9}, {61428, 5998, 8, 9}, {61448, 6007, 11, 9}, {61500, 6016, 10, 9},
+    {61552, 6025, 9, 9}, {61386, 6034, 15, 9}, {61635, 6043, 10, 9}, {61646, 6052, 9, 9}, {61460, 6061, 7, 9},
+    {61692, 6070, 8, 9}, {61701, 6079, 15, 9}, {61717, 6088, 24, 9}, {62338, 6097, 10, 9}, {61782, 6106, 10, 9},
+    {61742, 6115, 16, 9}, {61818, 6124, 9, 9}, {61828, 6144, 9, 9}, {61838, 6153, 12, 9}, {62669, 6162, 16, 9},
+    {61851, 6171, 11, 9}, {62568, 6180, 10, 9}, {62280, 6189, 13, 9}, {62252, 6198, 16, 9}, {62269, 6207, 10, 9},
+    {62192, 6216, 14, 9}, {62464, 6225, 23, 9}, {64239, 6234, 14, 10}, {64254, 6244, 12, 10}, {64267, 6254, 9, 10},
+    {62636, 6264, 14, 10}, {62225, 6274, 11, 10}, {61910, 6284, 9, 10}, {64158, 6294, 12, 10}, {61215, 6304, 10, 10},
+    {62628, 6314, 7, 10}, {61200, 6324, 14, 10}, {61771, 6334, 10, 10}, {62308, 6344, 14, 10}, {61479, 6354, 8, 10},
+    {62323, 6364, 14, 10}, {64059, 6374, 7, 10}, {60052, 6384, 25, 10}, {61952, 6394, 15, 10}, {62017, 6404, 22, 10},
+    {61990, 6414, 26, 10}, {61511, 6424, 13, 10}, {62488, 6434, 11, 10}, {63655, 6444, 9, 10}, {61968, 6454, 21, 10},
+    {60505, 6464, 27, 10}, {64223, 6474, 15, 10}, {60001, 6484, 24, 10}, {60026, 6494, 25, 10}, {63678, 6504, 8, 10},
+    {64183, 6514, 10, 10}, {60443, 6524, 34, 10}, {60478, 6534, 26, 10}, {62429, 6544, 10, 10}, {62708, 6554, 16, 10},
+    {60247, 6564, 26, 10}, {61488, 6564, 11, 10}, {62388, 6574, 17, 10}, {62073, 6584, 29, 10}, {62139, 6594, 11, 10},
+    {61376, 6604, 9, 10}, {61793, 6614, 9, 10}, {61803, 6624, 14, 10}, {61675, 6634, 16, 10}, {62651, 6656, 17, 10},
+    {61759, 6666, 11, 10}, {64148, 6676, 9, 10}, {62131, 6686, 7, 10}, {62118, 6696, 12, 10}, {62761, 6706, 3, 10},
+    {61542, 6716, 9, 10}, {62367, 6726, 20, 10}, {61619, 6736, 15, 10}, {61884, 6746, 14, 10}, {60274, 6756, 33, 10},
+    {59076, 6766, 18, 10}, {61084, 6766, 26, 10}, {59095, 6776, 17, 10}, {61111, 6776, 25, 10}, {60416, 6786, 26, 10},
+    {63634, 6796, 20, 10}, {60533, 6806, 22, 10}, {61354, 6816, 21, 10}, {61575, 6826, 22, 10}, {62597, 6836, 11, 10},
+    {61525, 6846, 6, 10}, {61532, 6856, 9, 10}, {63697, 6866, 14, 10}, {61305, 6876, 19, 10}, {61325, 6886, 28, 10},
+    {61260, 6896, 17, 10}, {61278, 6906, 26, 10}, {61414, 6916, 13, 10}, {63197, 6926, 15, 10}, {62500, 6936, 11, 10},
+    {62542, 6946, 25, 10}, {62349, 6956, 17, 10}, {64082, 6966, 17, 10}, {64120, 6976, 18, 10}, {64100, 6986, 19, 10},
+    {64067, 6996, 14, 10}, {60308, 7006, 27, 10}, {60369, 7016, 29, 10}, {63712, 7026, 24, 10}, {63737, 7036, 21, 10},
+    {62051, 7046, 21, 10}, {62839, 7056, 21, 10}, {62861, 7066, 16, 10}, {62976, 7076, 25, 10}, {62207, 7086, 17, 10},
+    {60336, 7096, 32, 10}, {62512, 7106, 29, 10}, {63968, 7116, 18, 10}, {63923, 7126, 21, 10}, {63871, 7136, 27, 10},
+    {63945, 7146, 22, 10}, {64000, 7168, 29, 10}, {63899, 7178, 23, 10}, {62817, 7188, 21, 10}, {63126, 7198, 34, 10},
+    {63834, 7208, 36, 10}, {61656, 7218, 18, 10}, {63037, 7228, 26, 10}, {62765, 7238, 26, 10}, {62900, 7248, 21, 10},
+    {62792, 7258, 24, 10}, {63816, 7268, 17, 10}, {63002, 7278, 18, 10}, {61137, 7288, 34, 10}, {61172, 7288, 27, 10},
+    {62878, 7298, 9, 10}, {62888, 7308, 11, 10}, {63082, 7318, 13, 10}, {63096, 7328, 29, 10}, {62922, 7338, 39, 10},
+    {63294, 7348, 15, 10}, {63276, 7358, 17, 10}, {63261, 7368, 14, 10}, {63161, 7378, 35, 10}, {63021, 7388, 15, 10},
+    {63064, 7398, 17, 10}, {61608, 7408, 10, 10}, {63310, 7418, 13, 9}, {63520, 7427, 17, 9}, {63395, 7436, 5, 9},
+    {63594, 7445, 4, 9}, {63333, 7454, 7, 9}, {63538, 7463, 6, 9}, {63509, 7472, 10, 9}, {63568, 7481, 4, 9},
+    {63580, 7490, 13, 9}, {63599, 7499, 6, 9}, {63360, 7508, 9, 9}, {63370, 7517, 24, 9}, {63573, 7526, 6, 9},
+    {63545, 7535, 22, 9}, {63401, 7544, 20, 10}, {63457, 7554, 22, 10}, {63488, 7564, 20, 10}, {63422, 7574, 26, 10},
+    {63449, 7584, 7, 11}, {63213, 7595, 11, 12}, {63225, 7607, 16, 12}, {63242, 7619, 18, 12}, {107743, 7631, 11, 9},
+    {109083, 7640, 30, 9}, {108567, 7649, 15, 10}, {108544, 7659, 22, 10}, {108583, 7680, 24, 9}, {107068, 7689, 16, 9},
+    {107085, 7698, 9, 9}, {107095, 7707, 20, 9}, {107116, 7716, 13, 9}, {107130, 7725, 20, 9}, {107151, 7734, 21, 9},
+    {107173, 7743, 11, 9}, {107185, 7752, 9, 9}, {107195, 7761, 29, 9}, {107225, 7770, 11, 9}, {107237, 7779, 11, 9},
+    {107249, 7788, 22, 9}, {107272, 7797, 19, 9}, {107292, 7806, 19, 9}, {107312, 7815, 18, 9}, {107331, 7824, 21, 9},
+    {107353, 7833, 19, 9}, {107373, 7842, 19, 9}, {107393, 7851, 16, 9}, {107410, 7860, 22, 9}, {107433, 7869, 18, 9},
+    {107452, 7878, 20, 9}, {107473, 7887, 20, 9}, {107520, 7896, 23, 9}, {107544, 7905, 23, 9}, {107568, 7914, 19, 9},
+    {107588, 7923, 24, 9}, {107613, 7932, 27, 9}, {107641, 7941, 24, 9}, {2212, 7950, 3, 1}, {20702, 7950, 3, 1},
+    {25243, 7950, 23, 1}, {112743, 7950, 5, 1}, {55009, 7951, 17, 5}, {2216, 7956, 3, 2}, {20706, 7956, 3, 2},
+    {2220, 7958, 8, 3}, {20710, 7958, 4, 3}, {20715, 7958, 4, 3}, {2229, 7961, 9, 4}, {20720, 7961, 9, 4},
+    {59200, 7965, 9, 7}, {59210, 7972, 9, 7}, {58040, 7979, 5, 7}, {58046, 7986, 13, 7}, {62579, 7986, 17, 7},
+    {58060, 7993, 10, 7}, {58071, 8000, 16, 7}, {58088, 8007, 9, 7}, {58098, 8014, 9, 7}, {58108, 8021, 13, 7},
+    {58122, 8028, 14, 7}, {58137, 8035, 12, 7}, {58150, 8042, 10, 7}, {58161, 8049, 9, 7}, {58171, 8056, 17, 7},
+    {58189, 8063, 17, 7}, {58207, 8070, 13, 7}, {58221, 8077, 17, 7}, {58239, 8084, 16, 7}, {58256, 8091, 12, 7},
+    {58269, 8098, 12, 7}, {58282, 8105, 15, 7}, {58298, 8112, 15, 7}, {58314, 8119, 10, 7}, {58325, 8126, 13, 7},
+    {58339, 8133, 8, 7}, {58348, 8140, 10, 7}, {58368, 8147, 11, 7}, {102865, 8154, 16, 7}, {102882, 8161, 12, 7},
+    {102912, 8168, 20, 7}, {58380, 8175, 12, 7}, {58393, 8182, 13, 7}, {58407, 8192, 10, 7}, {58418, 8199, 9, 7},
+    {58428, 8206, 10, 7}, {58439, 8213, 6, 7}, {58446, 8220, 6, 7}, {58453, 8227, 9, 7}, {58463, 8234, 11, 7},
+    {58475, 8241, 6, 7}, {58482, 8248, 9, 7}, {58492, 8255, 13, 7}, {58506, 8262, 14, 7}, {102933, 8269, 12, 7},
+    {102946, 8276, 9, 7}, {59143, 8283, 10, 5}, {59154, 8288, 13, 5}, {60849, 8293, 16, 5}, {59936, 8298, 19, 5},
+    {59956, 8303, 21, 6}, {59978, 8309, 22, 6}, {61054, 8315, 29, 5}, {60885, 8320, 14, 5}, {60900, 8325, 8, 5},
+    {60151, 8330, 24, 5}, {2239, 8335, 4, 4}, {20730, 8335, 10, 4}, {2244, 8339, 5, 5}, {2347, 8344, 6, 6},
+    {2354, 8350, 8, 7}, {2363, 8357, 11, 7}, {2375, 8364, 9, 7}, {85540, 8371, 17, 8}, {2385, 8379, 10, 7},
+    {2396, 8386, 7, 7}, {2404, 8393, 11, 7}, {2416, 8400, 11, 7}, {2428, 8407, 15, 7}, {2444, 8414, 10, 7},
+    {2455, 8421, 10, 8}, {2466, 8429, 10, 9}, {2477, 8438, 7, 9}, {2485, 8447, 10, 9}, {2496, 8456, 11, 9},
+    {3428, 8465, 10, 6}, {3439, 8471, 8, 7}, {3448, 8478, 7, 7}, {3456, 8485, 7, 8}, {3464, 8493, 7, 9},
+    {3472, 8502, 7, 9}, {3480, 8511, 6, 9}, {3487, 8520, 5, 9}, {3493, 8529, 7, 9}, {3501, 8538, 13, 9},
+    {3515, 8547, 13, 9}, {3529, 8556, 12, 9}, {3542, 8565, 12, 9}, {3555, 8574, 10, 9}, {3566, 8583, 13, 9},
+    {3584, 8592, 14, 9}, {3599, 8601, 12, 9}, {3612, 8610, 10, 9}, {3623, 8619, 17, 9}, {3641, 8628, 11, 9},
+    {3653, 8637, 14, 9}, {3668, 8646, 15, 9}, {3684, 8655, 13, 9}, {3698, 8664, 11, 9}, {3710, 8673, 9, 9},
+    {3720, 8682, 10, 9}, {71827, 8691, 2, 6}, {71830, 8704, 7, 7}, {71838, 8711, 7, 8}, {71846, 8719, 9, 9},
+    {71856, 8728, 13, 9}, {71870, 8737, 12, 9}, {4794, 8746, 2, 6}, {4797, 8752, 12, 7}, {4810, 8759, 12, 7},
+    {4823, 8766, 12, 7}, {4836, 8773, 13, 7}, {4850, 8780, 14, 7}, {4865, 8787, 15, 7}, {4881, 8794, 17, 7},
+    {4899, 8801, 12, 7}, {4912, 8808, 12, 7}, {4925, 8815, 13, 7}, {4939, 8822, 13, 7}, {4953, 8829, 13, 7},
+    {4967, 8836, 14, 7}, {4982, 8843, 12, 7}, {4995, 8850, 10, 7}, {5006, 8857, 12, 7}, {5019, 8864, 9, 7},
+    {5029, 8871, 11, 7}, {5041, 8878, 13, 7}, {5055, 8885, 11, 7}, {5067, 8892, 11, 8}, {5079, 8900, 11, 9},
+    {5091, 8909, 14, 9}, {5120, 8918, 14, 9}, {5135, 8927, 16, 9}, {5152, 8936, 19, 9}, {71883, 8945, 12, 7},
+    {71896, 8952, 12, 8}, {71909, 8960, 11, 9}, {71921, 8969, 14, 9}, {71936, 8978, 14, 9}, {71951, 8987, 14, 9},
+    {71966, 8996, 14, 9}, {71981, 9005, 14, 9}, {71996, 9014, 14, 9}, {72011, 9023, 11, 9}, {72023, 9032, 12, 9},
+    {72036, 9041, 10, 9}, {72047, 9050, 11, 9}, {72059, 9059, 14, 9}, {72074, 9068, 11, 9}, {5172, 9077, 17, 7},
+    {5190, 9084, 17, 8}, {5208, 9092, 19, 9}, {5228, 9101, 23, 9}, {5252, 9110, 22, 9}, {5275, 9119, 16, 9},
+    {5292, 9128, 17, 7}, {70741, 9135, 9, 7}, {70751, 9142, 15, 8}, {70767, 9150, 14, 8}, {70782, 9158, 14, 9},
+    {70797, 9167, 13, 10}, {70811, 9177, 13, 10}, {70825, 9187, 15, 10}, {70841, 9197, 16, 10}, {70858, 9216, 16, 10},
+    {70875, 9226, 13, 10}, {70889, 9236, 14, 10}, {70904, 9246, 12, 10}, {70917, 9256, 13, 10}, {70931, 9266, 18, 10},
+    {70950, 9276, 16, 10}, {70967, 9286, 16, 10}, {70984, 9296, 16, 10}, {71001, 9306, 16, 10}, {71018, 9316, 16, 10},
+    {71035, 9326, 17, 8}, {71053, 9334, 16, 8}, {71070, 9342, 16, 9}, {71087, 9351, 15, 10}, {71103, 9361, 15, 10},
+    {71119, 9371, 14, 10}, {71134, 9381, 18, 10}, {71168, 9391, 18, 10}, {71187, 9401, 15, 10}, {71203, 9411, 16, 10},
+    {71220, 9421, 14, 10}, {71235, 9431, 15, 10}, {71251, 9441, 20, 10}, {71272, 9451, 18, 10}, {71291, 9461, 18, 10},
+    {71310, 9471, 18, 10}, {71329, 9481, 18, 10}, {71348, 9491, 18, 10}, {71367, 9501, 17, 10}, {71385, 9511, 19, 8},
+    {71405, 9519, 18, 8}, {71424, 9527, 18, 9}, {71443, 9536, 21, 10}, {71465, 9546, 17, 10}, {71483, 9556, 19, 10},
+    {71503, 9566, 19, 10}, {71523, 9576, 24, 10}, {71548, 9586, 20, 10}, {71569, 9596, 20, 10}, {71590, 9606, 17, 10},
+    {71608, 9616, 18, 10}, {71627, 9626, 16, 10}, {71644, 9636, 22, 10}, {71680, 9646, 20, 10}, {71701, 9656, 20, 10},
+    {71722, 9666, 20, 10}, {71743, 9676, 20, 10}, {71764, 9686, 20, 10}, {71785, 9696, 19, 10}, {71805, 9706, 21, 8},
+    {5310, 9714, 16, 7}, {5327, 9728, 21, 7}, {5349, 9735, 28, 7}, {5378, 9742, 18, 7}, {5397, 9749, 18, 8},
+    {5416, 9757, 20, 9}, {5437, 9766, 25, 9}, {5463, 9775, 25, 9}, {5489, 9784, 27, 9}, {5517, 9793, 28, 7},
+    {5546, 9800, 18, 7}, {5565, 9807, 18, 8}, {5584, 9815, 20, 9}, {5632, 9824, 25, 9}, {5658, 9833, 23, 9},
+    {5682, 9842, 25, 9}, {5708, 9851, 26, 9}, {5735, 9860, 27, 9}, {5763, 9869, 23, 9}, {5787, 9878, 14, 7},
+    {5802, 9885, 18, 8}, {5821, 9893, 18, 9}, {5840, 9902, 22, 10}, {5863, 9912, 23, 10}, {5887, 9922, 25, 10},
+    {5913, 9932, 21, 10}, {5935, 9942, 23, 10}, {5959, 9952, 24, 10}, {5984, 9962, 23, 10}, {6008, 9972, 25, 10},
+    {6034, 9982, 28, 10}, {6063, 9992, 28, 10}, {6092, 10002, 28, 10}, {6144, 10012, 30, 10}, {6175, 10022, 23, 10},
+    {6199, 10032, 21, 10}, {6221, 10042, 23, 10}, {6245, 10052, 23, 10}, {6269, 10062, 23, 10}, {6293, 10072, 25, 10},
+    {6319, 10082, 24, 10}, {6344, 10092, 26, 10}, {6371, 10102, 24, 10}, {6396, 10112, 29, 10}, {6426, 10122, 31, 10},
+    {6458, 10132, 24, 10}, {6483, 10142, 25, 10}, {6509, 10152, 23, 10}, {6533, 10162, 25, 10}, {6559, 10172, 27, 10},
+    {6587, 10182, 25, 10}, {6613, 10192, 27, 10}, {6656, 10202, 22, 10}, {6679, 10212, 24, 10}, {6704, 10222, 24, 10},
+    {6729, 10240, 26, 10}, {6756, 10250, 26, 10}, {6783, 10260, 28, 10}, {6812, 10270, 25, 10}, {6838, 10280, 27, 10},
+    {6866, 10290, 27, 10}, {6894, 10300, 29, 10}, {6924, 10310, 24, 10}, {6949, 10320, 26, 10}, {6976, 10330, 25, 10},
+    {7002, 10340, 27, 10}, {7030, 10350, 30, 10}, {7061, 10360, 24, 10}, {7086, 10370, 24, 8}, {7111, 10378, 14, 8},
+    {7126, 10386, 14, 9}, {7141, 10395, 18, 10}, {7168, 10405, 16, 10}, {7185, 10415, 19, 10}, {7205, 10425, 21, 10},
+    {7227, 10435, 17, 10}, {7245, 10445, 19, 10}, {7265, 10455, 20, 10}, {7286, 10465, 19, 10}, {7306, 10475, 21, 10},
+    {7328, 10485, 24, 10}, {7353, 10495, 24, 10}, {7378, 10505, 24, 10}, {7403, 10515, 26, 10}, {7430, 10525, 19, 10},
+    {7450, 10535, 17, 10}, {7468, 10545, 19, 10}, {7488, 10555, 19, 10}, {7508, 10565, 19, 10}, {7528, 10575, 21, 10},
+    {7550, 10585, 20, 10}, {7571, 10595, 22, 10}, {7594, 10605, 25, 10}, {7620, 10615, 27, 10}, {7648, 10625, 20, 10},
+    {7680, 10635, 21, 10}, {7702, 10645, 19, 10}, {7722, 10655, 21, 10}, {7744, 10665, 23, 10}, {7768, 10675, 21, 10},
+    {7790, 10685, 23, 10}, {7814, 10695, 18, 10}, {7833, 10705, 20, 10}, {7854, 10715, 20, 10}, {7875, 10725, 22, 10},
+    {7898, 10735, 22, 10}, {7921, 10752, 24, 10}, {7946, 10762, 21, 10}, {7968, 10772, 23, 10}, {7992, 10782, 23, 10},
+    {8016, 10792, 25, 10}, {8042, 10802, 20, 10}, {8063, 10812, 22, 10}, {8086, 10822, 21, 10}, {8108, 10832, 23, 10},
+    {8132, 10842, 26, 10}, {8159, 10852, 20, 10}, {8192, 10862, 20, 7}, {8213, 10869, 20, 8}, {8234, 10877, 22, 9},
+    {8257, 10886, 19, 9}, {8277, 10895, 21, 9}, {8299, 10904, 21, 9}, {8321, 10913, 21, 9}, {8343, 10922, 25, 9},
+    {8369, 10931, 29, 9}, {8399, 10940, 35, 9}, {8435, 10949, 31, 9}, {8467, 10958, 17, 7}, {8485, 10965, 14, 7},
+    {8500, 10972, 14, 8}, {8515, 10980, 17, 9}, {8533, 10989, 13, 9}, {8547, 10998, 16, 9}, {8564, 11007, 13, 9},
+    {8578, 11016, 15, 9}, {8594, 11025, 15, 9}, {8610, 11034, 15, 9}, {8626, 11043, 16, 9}, {8643, 11052, 20, 9},
+    {8664, 11061, 18, 9}, {8704, 11070, 20, 9}, {8725, 11079, 20, 7}, {8746, 11086, 20, 8}, {8767, 11094, 22, 9},
+    {8790, 11103, 29, 9}, {8820, 11112, 25, 9}, {8846, 11121, 26, 9}, {8873, 11130, 26, 9}, {8900, 11139, 19, 9},
+    {8920, 11148, 20, 9}, {8941, 11157, 24, 9}, {8966, 11166, 23, 7}, {8990, 11173, 23, 8}, {9014, 11181, 25, 9},
+    {9040, 11190, 27, 9}, {9068, 11199, 19, 9}, {9088, 11208, 28, 9}, {9117, 11217, 27, 9}, {9145, 11226, 19, 9},
+    {9165, 11235, 19, 9}, {9216, 11244, 35, 9}, {9252, 11264, 19, 9}, {9272, 11273, 19, 9}, {9292, 11282, 19, 9},
+    {9312, 11291, 19, 9}, {9332, 11300, 19, 9}, {9352, 11309, 20, 7}, {9373, 11316, 20, 8}, {9394, 11324, 26, 9},
+    {9421, 11333, 22, 9}, {9444, 11342, 22, 9}, {9467, 11351, 23, 9}, {9491, 11360, 25, 9}, {9517, 11369, 24, 7},
+    {9542, 11376, 21, 7}, {9564, 11383, 21, 8}, {9586, 11391, 23, 9}, {9610, 11400, 27, 9}, {9638, 11409, 27, 9},
+    {9666, 11418, 27, 9}, {9694, 11427, 27, 9}, {9728, 11436, 31, 9}, {9760, 11445, 23, 9}, {9784, 11454, 29, 9},
+    {9814, 11463, 30, 9}, {9845, 11472, 27, 9}, {9873, 11481, 31, 9}, {9905, 11490, 25, 9}, {9931, 11499, 4, 6},
+    {9936, 11505, 10, 7}, {9947, 11512, 12, 7}, {9960, 11519, 18, 7}, {9979, 11526, 15, 7}, {9995, 11533, 15, 7},
+    {10011, 11540, 16, 7}, {10028, 11547, 15, 7}, {10044, 11554, 11, 7}, {10056, 11561, 14, 7}, {10071, 11568, 16, 7},
+    {10088, 11575, 19, 7}, {10108, 11582, 15, 7}, {10124, 11589, 18, 7}, {10143, 11596, 11, 7}, {10155, 11603, 13, 7},
+    {10169, 11610, 19, 7}, {10189, 11617, 16, 7}, {10206, 11624, 16, 7}, {10240, 11631, 17, 7}, {10258, 11638, 16, 7},
+    {10275, 11645, 12, 7}, {10288, 11652, 15, 7}, {10304, 11659, 17, 7}, {10322, 11666, 20, 7}, {10343, 11673, 16, 7},
+    {10360, 11680, 19, 7}, {10380, 11687, 14, 7}, {10395, 11694, 14, 8}, {10410, 11702, 18, 9}, {10429, 11711, 15, 9},
+    {10445, 11720, 17, 9}, {10463, 11729, 16, 9}, {10480, 11738, 18, 9}, {10499, 11747, 17, 7}, {10517, 11754, 17, 8},
+    {10535, 11762, 21, 9}, {10557, 11776, 16, 9}, {10574, 11785, 18, 9}, {10593, 11794, 19, 9}, {11154, 11803, 3, 6},
+    {11158, 11809, 15, 7}, {11174, 11816, 9, 7}, {11184, 11823, 9, 7}, {11194, 11830, 10, 7}, {11205, 11837, 14, 7},
+    {11220, 11844, 15, 7}, {11236, 11851, 15, 7}, {11264, 11858, 14, 7}, {11279, 11865, 12, 7}, {11292, 11872, 9, 7},
+    {11302, 11879, 10, 7}, {11313, 11886, 14, 7}, {11328, 11893, 12, 7}, {11341, 11900, 12, 8}, {11354, 11908, 12, 9},
+    {11367, 11917, 19, 9}, {11387, 11926, 16, 9}, {11404, 11935, 17, 9}, {11422, 11944, 14, 9}, {11437, 11953, 9, 7},
+    {11447, 11960, 10, 7}, {11458, 11967, 11, 7}, {11470, 11974, 12, 7}, {11483, 11981, 18, 7}, {11502, 11988, 18, 8},
+    {11521, 11996, 29, 9}, {11551, 12005, 25, 9}, {11577, 12014, 22, 9}, {11600, 12023, 27, 9}, {11628, 12032, 23, 9},
+    {11652, 12041, 20, 9}, {11673, 12050, 18, 9}, {11692, 12059, 20, 9}, {11713, 12068, 16, 7}, {11730, 12075, 16, 8},
+    {11776, 12083, 27, 9}, {11804, 12092, 23, 9}, {11828, 12101, 20, 9}, {11849, 12110, 18, 9}, {12028, 12119, 3, 6},
+    {12032, 12125, 14, 7}, {12047, 12132, 10, 7}, {12058, 12139, 11, 7}, {12070, 12146, 15, 7}, {12086, 12153, 8, 7},
+    {12095, 12160, 8, 8}, {12104, 12168, 15, 9}, {12120, 12177, 12, 9}, {12133, 12186, 16, 7}, {12150, 12193, 16, 8},
+    {12167, 12201, 27, 9}, {12195, 12210, 23, 9}, {12219, 12219, 20, 9}, {12240, 12228, 28, 9}, {12288, 12237, 24, 9},
+    {12313, 12246, 21, 9}, {12335, 12255, 19, 9}, {12355, 12264, 18, 9}, {12374, 12273, 16, 7}, {12391, 12288, 17, 7},
+    {72086, 12295, 3, 6}, {72090, 12301, 9, 7}, {72100, 12308, 11, 7}, {72112, 12315, 10, 7}, {72123, 12322, 12, 7},
+    {72136, 12329, 13, 7}, {72150, 12336, 13, 8}, {72164, 12344, 13, 9}, {72192, 12353, 12, 9}, {72205, 12362, 10, 9},
+    {72216, 12371, 14, 9}, {72231, 12380, 14, 9}, {72246, 12389, 15, 9}, {72262, 12398, 15, 9}, {72278, 12407, 17, 9},
+    {72296, 12416, 18, 9}, {72315, 12425, 16, 9}, {72332, 12434, 18, 9}, {72351, 12443, 21, 9}, {72373, 12452, 20, 9},
+    {72394, 12461, 12, 9}, {72407, 12470, 20, 9}, {72428, 12479, 5, 7}, {2250, 12486, 12, 6}, {69532, 12492, 4, 7},
+    {69537, 12499, 14, 8}, {69552, 12507, 14, 9}, {69567, 12516, 14, 10}, {69582, 12526, 24, 10},
+    {69607, 12536, 18, 10}, {69632, 12546, 30, 10}, {69663, 12556, 32, 10}, {69696, 12566, 22, 10},
+    {69719, 12576, 30, 10}, {69750, 12586, 23, 10}, {69774, 12596, 28, 10}, {69803, 12606, 34, 10},
+    {69838, 12616, 27, 10}, {69866, 12626, 22, 10}, {69889, 12636, 33, 10}, {69923, 12646, 21, 10},
+    {69945, 12656, 21, 10}, {69967, 12666, 21, 10}, {69989, 12676, 27, 10}, {70017, 12686, 26, 10},
+    {70044, 12696, 13, 8}, {70058, 12704, 13, 9}, {70072, 12713, 13, 10}, {70086, 12723, 19, 10}, {70106, 12733, 9, 8},
+    {70116, 12741, 11, 9}, {70144, 12750, 16, 9}, {70161, 12759, 10, 8}, {70172, 12767, 18, 9}, {70191, 12776, 22, 9},
+    {70214, 12785, 16, 8}, {70231, 12800, 16, 9}, {70248, 12809, 29, 10}, {70278, 12819, 27, 10},
+    {70306, 12829, 29, 10}, {70336, 12839, 14, 8}, {70351, 12847, 14, 9}, {70366, 12856, 18, 10},
+    {70385, 12866, 17, 10}, {70403, 12876, 17, 10}, {70421, 12886, 18, 10}, {70440, 12896, 19, 10},
+    {70460, 12906, 20, 10}, {70481, 12916, 16, 8}, {70498, 12924, 16, 9}, {70515, 12933, 26, 10},
+    {70542, 12943, 20, 10}, {70563, 12953, 36, 10}, {70600, 12963, 24, 10}, {70656, 12973, 35, 10},
+    {70692, 12983, 23, 10}, {2508, 12993, 4, 6}, {2513, 12999, 10, 7}, {2524, 13006, 11, 7}, {2536, 13013, 17, 7},
+    {2560, 13020, 23, 7}, {2584, 13027, 22, 7}, {2607, 13034, 18, 7}, {2626, 13041, 13, 7}, {2640, 13048, 17, 7},
+    {2658, 13055, 15, 7}, {2674, 13062, 15, 7}, {2690, 13069, 13, 7}, {2704, 13076, 18, 7}, {2723, 13083, 18, 7},
+    {2742, 13090, 17, 7}, {2760, 13097, 14, 7}, {2775, 13104, 17, 7}, {2793, 13111, 18, 7}, {2812, 13118, 11, 7},
+    {2824, 13125, 14, 7}, {2839, 13132, 18, 7}, {2858, 13139, 16, 7}, {2875, 13146, 14, 7}, {2890, 13153, 18, 7},
+    {2909, 13160, 15, 7}, {2925, 13167, 18, 7}, {2944, 13174, 19, 7}, {2964, 13181, 12, 7}, {2977, 13188, 21, 7},
+    {2999, 13195, 15, 7}, {3015, 13202, 14, 7}, {85558, 13209, 3, 6}, {85562, 13215, 15, 7}, {86728, 13222, 26, 8},
+    {86755, 13230, 28, 8}, {85578, 13238, 10, 7}, {85589, 13245, 10, 7}, {85600, 13252, 12, 7}, {85613, 13259, 12, 8},
+    {85626, 13267, 17, 9}, {85644, 13276, 12, 9}, {85657, 13285, 18, 9}, {85676, 13294, 24, 9}, {85701, 13312, 16, 9},
+    {85718, 13321, 16, 9}, {85735, 13330, 17, 9}, {85753, 13339, 17, 9}, {85771, 13348, 15, 9}, {85787, 13357, 16, 9},
+    {85804, 13366, 17, 9}, {85822, 13375, 22, 9}, {85845, 13384, 23, 9}, {85869, 13393, 16, 9}, {85886, 13402, 32, 9},
+    {85919, 13411, 25, 9}, {85945, 13420, 27, 9}, {85973, 13429, 15, 9}, {85989, 13438, 16, 9}, {86016, 13447, 25, 9},
+    {86042, 13456, 26, 9}, {86069, 13465, 31, 9}, {86101, 13474, 36, 9}, {86138, 13483, 26, 9}, {86165, 13492, 13, 7},
+    {86179, 13499, 20, 7}, {86200, 13506, 16, 8}, {86217, 13514, 15, 9}, {86233, 13523, 22, 9}, {86256, 13532, 17, 9},
+    {86274, 13541, 17, 9}, {86292, 13550, 18, 9}, {86311, 13559, 24, 9}, {86336, 13568, 17, 7}, {86354, 13575, 17, 8},
+    {86372, 13583, 16, 9}, {86389, 13592, 27, 9}, {86417, 13601, 24, 9}, {86442, 13610, 18, 9}, {86461, 13619, 25, 9},
+    {86487, 13628, 19, 9}, {86528, 13637, 25, 9}, {86554, 13646, 21, 9}, {86576, 13655, 27, 9}, {86604, 13664, 24, 9},
+    {86629, 13673, 26, 9}, {86656, 13682, 25, 9}, {86682, 13691, 16, 9}, {86699, 13700, 19, 9}, {86719, 13709, 8, 7},
+    {86784, 13716, 14, 8}, {86799, 13724, 21, 8}, {93485, 13732, 4, 6}, {93490, 13738, 12, 7}, {97474, 13745, 11, 8},
+    {97486, 13753, 12, 8}, {93503, 13761, 10, 7}, {93514, 13768, 15, 8}, {93530, 13776, 15, 9}, {93546, 13785, 15, 10},
+    {93562, 13795, 20, 10}, {93583, 13805, 20, 10}, {93604, 13824, 16, 10}, {93621, 13834, 14, 10},
+    {93636, 13844, 23, 10}, {93660, 13854, 23, 10}, {93696, 13864, 24, 10}, {93721, 13874, 23, 10},
+    {93745, 13884, 22, 10}, {93768, 13894, 19, 10}, {93788, 13904, 17, 10}, {93806, 13914, 20, 10},
+    {93827, 13924, 22, 10}, {93850, 13934, 27, 10}, {93878, 13944, 28, 10}, {93907, 13954, 28, 10},
+    {93936, 13964, 29, 10}, {93966, 13974, 30, 10}, {93997, 13984, 15, 10}, {94013, 13994, 16, 10},
+    {94030, 14004, 7, 7}, {94038, 14011, 19, 8}, {94058, 14019, 19, 9}, {94078, 14028, 19, 10}, {94098, 14038, 24, 10},
+    {94123, 14048, 30, 10}, {94154, 14058, 28, 10}, {94208, 14068, 22, 10}, {94231, 14078, 19, 10},
+    {94251, 14088, 20, 10}, {94272, 14098, 17, 8}, {94290, 14106, 17, 9}, {94308, 14115, 17, 10},
+    {94326, 14125, 23, 10}, {94350, 14135, 25, 10}, {94376, 14145, 22, 10}, {94399, 14155, 18, 10},
+    {94418, 14165, 16, 10}, {94435, 14175, 25, 10}, {94461, 14185, 25, 10}, {94487, 14195, 26, 10},
+    {94514, 14205, 25, 10}, {94540, 14215, 24, 10}, {94565, 14225, 21, 10}, {94587, 14235, 19, 10},
+    {94607, 14245, 22, 10}, {94630, 14255, 23, 10}, {94654, 14265, 5, 7}, {94660, 14272, 10, 8}, {94671, 14280, 10, 9},
+    {94682, 14289, 10, 10}, {94693, 14299, 13, 10}, {94720, 14309, 13, 10}, {94734, 14319, 15, 10},
+    {94750, 14336, 10, 10}, {94761, 14346, 17, 10}, {94779, 14356, 20, 10}, {94800, 14366, 21, 10},
+    {94822, 14376, 21, 10}, {94844, 14386, 22, 10}, {94867, 14396, 10, 10}, {94878, 14406, 11, 10},
+    {94890, 14416, 5, 7}, {94896, 14423, 16, 8}, {94913, 14431, 16, 9}, {94930, 14440, 16, 10}, {94947, 14450, 21, 10},
+    {94969, 14460, 20, 10}, {94990, 14470, 25, 10}, {95016, 14480, 16, 10}, {95033, 14490, 17, 10},
+    {95051, 14500, 9, 8}, {95061, 14508, 9, 9}, {95071, 14517, 11, 10}, {95083, 14527, 17, 10}, {95101, 14537, 9, 10},
+    {95111, 14547, 10, 10}, {95122, 14557, 11, 10}, {95134, 14567, 12, 10}, {95147, 14577, 13, 10},
+    {95161, 14587, 13, 10}, {95175, 14597, 20, 10}, {95196, 14607, 20, 10}, {95232, 14617, 13, 8},
+    {95246, 14625, 13, 9}, {95260, 14634, 15, 10}, {95276, 14644, 21, 10}, {95298, 14654, 13, 10},
+    {95312, 14664, 14, 10}, {95327, 14674, 15, 10}, {95343, 14684, 16, 10}, {95360, 14694, 17, 10},
+    {95378, 14704, 17, 10}, {95396, 14714, 24, 10}, {95421, 14724, 24, 10}, {95446, 14734, 8, 7}, {95455, 14741, 20, 8},
+    {95476, 14749, 20, 9}, {95497, 14758, 20, 10}, {95518, 14768, 17, 10}, {95536, 14778, 16, 10},
+    {95553, 14788, 21, 10}, {95575, 14798, 16, 10}, {95592, 14808, 21, 10}, {95614, 14818, 19, 10},
+    {95634, 14828, 17, 10}, {95652, 14848, 13, 10}, {95666, 14858, 14, 10}, {95681, 14868, 13, 8},
+    {95695, 14876, 13, 9}, {95709, 14885, 14, 10}, {95724, 14895, 13, 10}, {95744, 14905, 15, 10},
+    {95760, 14915, 12, 10}, {95773, 14925, 6, 7}, {95780, 14932, 18, 8}, {95799, 14940, 18, 9}, {95818, 14949, 18, 10},
+    {95837, 14959, 23, 10}, {95861, 14969, 22, 10}, {95884, 14979, 27, 10}, {95912, 14989, 18, 10},
+    {95931, 14999, 19, 10}, {95951, 15009, 13, 8}, {95965, 15017, 13, 9}, {95979, 15026, 21, 10},
+    {96001, 15036, 19, 10}, {96021, 15046, 13, 10}, {96035, 15056, 12, 10}, {96048, 15066, 14, 10},
+    {96063, 15076, 14, 10}, {96078, 15086, 13, 8}, {96092, 15094, 13, 9}, {96106, 15103, 21, 10},
+    {96128, 15113, 19, 10}, {96148, 15123, 13, 10}, {96162, 15133, 12, 10}, {96175, 15143, 14, 10},
+    {96190, 15153, 14, 10}, {96205, 15163, 6, 7}, {96212, 15170, 11, 8}, {96224, 15178, 11, 9}, {96236, 15187, 11, 10},
+    {96256, 15197, 18, 10}, {96275, 15207, 19, 10}, {96295, 15217, 13, 10}, {96309, 15227, 17, 10},
+    {96327, 15237, 20, 10}, {96348, 15247, 15, 10}, {96364, 15257, 19, 10}, {96384, 15267, 22, 10},
+    {96407, 15277, 11, 10}, {96419, 15287, 12, 10}, {96432, 15297, 12, 8}, {96445, 15305, 12, 9},
+    {96458, 15314, 12, 10}, {96471, 15324, 14, 10}, {96486, 15334, 17, 10}, {96504, 15344, 18, 10},
+    {96523, 15360, 23, 10}, {96547, 15370, 24, 10}, {96572, 15380, 17, 10}, {96590, 15390, 18, 10},
+    {96609, 15400, 14, 10}, {96624, 15410, 18, 10}, {96643, 15420, 12, 10}, {96656, 15430, 13, 10},
+    {96670, 15440, 7, 7}, {96678, 15447, 18, 8}, {96697, 15455, 18, 9}, {96716, 15464, 18, 10}, {96735, 15474, 25, 10},
+    {96768, 15484, 23, 10}, {96792, 15494, 23, 10}, {96816, 15504, 29, 10}, {96846, 15514, 30, 10},
+    {96877, 15524, 27, 10}, {96905, 15534, 31, 10}, {96937, 15544, 29, 10}, {96967, 15554, 28, 10},
+    {96996, 15564, 23, 10}, {97020, 15574, 18, 10}, {97039, 15584, 19, 10}, {97059, 15594, 18, 8},
+    {97078, 15602, 18, 9}, {97097, 15611, 25, 10}, {97123, 15621, 18, 10}, {97142, 15631, 21, 10},
+    {97164, 15641, 23, 10}, {97188, 15651, 25, 10}, {97214, 15661, 23, 10}, {97238, 15671, 25, 10},
+    {97264, 15681, 5, 7}, {97280, 15688, 10, 8}, {97291, 15696, 10, 9}, {97302, 15705, 10, 10}, {97313, 15715, 16, 10},
+    {97330, 15725, 9, 10}, {97340, 15735, 14, 10}, {97355, 15745, 17, 10}, {97373, 15755, 10, 10},
+    {97384, 15765, 11, 10}, {97396, 15775, 8, 8}, {97405, 15783, 8, 9}, {97414, 15792, 13, 10}, {97428, 15802, 8, 10},
+    {97437, 15812, 7, 10}, {97445, 15822, 14, 10}, {97460, 15832, 13, 8}, {65503, 15840, 11, 6}, {65536, 15846, 18, 7},
+    {65555, 15853, 7, 8}, {65563, 15861, 14, 8}, {65578, 15872, 9, 7}, {65588, 15879, 22, 8}, {65611, 15887, 17, 8},
+    {65629, 15895, 13, 8}, {65643, 15903, 18, 8}, {65662, 15911, 18, 9}, {65681, 15920, 13, 10}, {65695, 15930, 20, 10},
+    {65716, 15940, 20, 10}, {65737, 15950, 34, 10}, {65772, 15960, 32, 10}, {65805, 15970, 8, 7}, {65814, 15977, 29, 8},
+    {65844, 15985, 16, 8}, {65861, 15993, 31, 8}, {65893, 16001, 18, 8}, {65912, 16009, 22, 8}, {65935, 16017, 16, 8},
+    {65952, 16025, 16, 8}, {65969, 16033, 14, 8}, {65984, 16041, 17, 8}, {66002, 16049, 16, 8}, {66019, 16057, 20, 8},
+    {66048, 16065, 20, 8}, {66069, 16073, 23, 8}, {66093, 16081, 26, 8}, {66120, 16089, 17, 8}, {66138, 16097, 17, 9},
+    {66156, 16106, 12, 10}, {66169, 16116, 20, 10}, {66190, 16126, 17, 10}, {66208, 16136, 18, 10},
+    {66227, 16146, 20, 10}, {66248, 16156, 26, 10}, {66275, 16166, 26, 10}, {66302, 16176, 28, 10},
+    {66331, 16186, 26, 10}, {66358, 16196, 30, 10}, {66389, 16206, 22, 10}, {66412, 16216, 7, 7}, {66420, 16223, 7, 7},
+    {66428, 16230, 27, 8}, {66456, 16238, 16, 8}, {66473, 16246, 15, 8}, {66489, 16254, 15, 9}, {66505, 16263, 17, 10},
+    {66523, 16273, 14, 10}, {66538, 16283, 16, 10}, {66560, 16293, 16, 8}, {66577, 16301, 16, 9},
+    {66594, 16310, 11, 10}, {66606, 16320, 18, 10}, {66625, 16330, 19, 10}, {66645, 16340, 20, 10},
+    {66666, 16350, 21, 10}, {66688, 16360, 11, 7}, {66700, 16367, 16, 8}, {66717, 16384, 16, 9}, {66734, 16393, 18, 10},
+    {66753, 16403, 22, 10}, {66776, 16413, 24, 10}, {66801, 16423, 17, 10}, {66819, 16433, 10, 7},
+    {66830, 16440, 17, 8}, {66848, 16448, 9, 9}, {66858, 16457, 22, 10}, {66881, 16467, 14, 10}, {66896, 16477, 22, 10},
+    {66919, 16487, 13, 10}, {66933, 16497, 15, 10}, {66949, 16507, 7, 9}, {66957, 16516, 13, 10},
+    {66971, 16526, 13, 11}, {66985, 16537, 10, 12}, {66996, 16549, 20, 12}, {67017, 16561, 15, 10},
+    {67033, 16571, 15, 11}, {67049, 16582, 17, 12}, {67072, 16594, 14, 12}, {67087, 16606, 16, 12},
+    {67104, 16618, 17, 10}, {67122, 16628, 17, 11}, {67140, 16639, 19, 12}, {67160, 16651, 23, 12},
+    {67184, 16663, 18, 12}, {67203, 16675, 20, 10}, {67224, 16685, 20, 11}, {67245, 16696, 20, 12},
+    {67266, 16708, 26, 12}, {67293, 16720, 29, 12}, {67323, 16732, 29, 10}, {67353, 16742, 29, 11},
+    {67383, 16753, 29, 12}, {67413, 16765, 35, 12}, {67449, 16777, 38, 12}, {67488, 16789, 11, 9},
+    {67500, 16798, 23, 10}, {67524, 16808, 23, 11}, {67548, 16819, 25, 12}, {67584, 16831, 29, 12},
+    {67614, 16843, 31, 12}, {67646, 16855, 24, 12}, {67671, 16867, 25, 10}, {67697, 16877, 25, 11},
+    {67723, 16896, 27, 12}, {67751, 16908, 31, 12}, {67783, 16920, 37, 12}, {67821, 16932, 40, 12},
+    {67862, 16944, 26, 12}, {67889, 16956, 9, 9}, {67899, 16965, 19, 10}, {67919, 16975, 21, 10},
+    {67941, 16985, 21, 11}, {67963, 16996, 17, 12}, {67981, 17008, 14, 12}, {67996, 17020, 14, 12},
+    {68011, 17032, 27, 12}, {68039, 17044, 29, 12}, {68069, 17056, 15, 12}, {68096, 17068, 21, 12},
+    {68118, 17080, 20, 10}, {68139, 17090, 20, 11}, {68160, 17101, 19, 12}, {68180, 17113, 26, 12},
+    {68207, 17125, 29, 12}, {68237, 17137, 28, 12}, {68266, 17149, 24, 12}, {68291, 17161, 27, 10},
+    {68319, 17171, 18, 10}, {68338, 17181, 18, 11}, {68357, 17192, 9, 12}, {68367, 17204, 29, 12},
+    {68397, 17216, 25, 12}, {68423, 17228, 19, 12}, {68443, 17240, 32, 12}, {68476, 17252, 26, 12},
+    {68503, 17264, 35, 12}, {68539, 17276, 28, 10}, {68568, 17286, 28, 11}, {68608, 17297, 23, 12},
+    {68632, 17309, 24, 12}, {68657, 17321, 25, 12}, {68683, 17333, 31, 12}, {68715, 17345, 32, 12},
+    {68748, 17357, 33, 12}, {68782, 17369, 30, 10}, {68813, 17379, 30, 11}, {68844, 17390, 25, 12},
+    {68870, 17408, 26, 12}, {68897, 17420, 27, 12}, {68925, 17432, 29, 10}, {68955, 17442, 29, 11},
+    {68985, 17453, 19, 12}, {69005, 17465, 18, 12}, {69024, 17477, 19, 12}, {69044, 17489, 21, 12},
+    {69066, 17501, 25, 10}, {69120, 17511, 26, 10}, {69147, 17521, 13, 9}, {69161, 17530, 23, 10},
+    {69185, 17540, 23, 11}, {69209, 17551, 30, 12}, {69240, 17563, 34, 12}, {69275, 17575, 20, 12},
+    {69296, 17587, 27, 12}, {69324, 17599, 22, 10}, {69347, 17609, 22, 11}, {69370, 17620, 24, 12},
+    {69395, 17632, 25, 12}, {69421, 17644, 26, 12}, {12550, 17656, 4, 6}, {12555, 17662, 8, 7}, {12564, 17669, 14, 8},
+    {12579, 17677, 12, 8}, {12592, 17685, 25, 8}, {12618, 17693, 29, 8}, {12648, 17701, 16, 8}, {12665, 17709, 17, 8},
+    {12683, 17717, 20, 8}, {12704, 17725, 9, 7}, {12714, 17732, 14, 8}, {12729, 17740, 12, 8}, {12742, 17748, 14, 8},
+    {12757, 17756, 14, 9}, {12772, 17765, 14, 10}, {12800, 17775, 13, 10}, {12814, 17785, 14, 10},
+    {12829, 17795, 24, 10}, {12854, 17805, 13, 10}, {12868, 17815, 13, 10}, {12882, 17825, 27, 10},
+    {12910, 17835, 8, 7}, {12919, 17842, 13, 8}, {12933, 17850, 13, 8}, {12947, 17858, 13, 9}, {12961, 17867, 13, 10},
+    {12975, 17877, 12, 10}, {12988, 17887, 13, 10}, {13002, 17897, 10, 10}, {13013, 17907, 14, 10},
+    {13028, 17920, 14, 10}, {13043, 17930, 16, 8}, {13060, 17938, 16, 9}, {13077, 17947, 16, 10},
+    {13094, 17957, 15, 10}, {13110, 17967, 14, 8}, {13125, 17975, 14, 9}, {13140, 17984, 16, 10}, {13157, 17994, 14, 8},
+    {13172, 18002, 14, 9}, {13187, 18011, 15, 10}, {13203, 18021, 27, 10}, {13231, 18031, 18, 8}, {13250, 18039, 18, 9},
+    {13269, 18048, 19, 10}, {13289, 18058, 18, 10}, {13312, 18068, 22, 10}, {13335, 18078, 21, 10},
+    {13357, 18088, 16, 8}, {13374, 18096, 16, 9}, {13391, 18105, 16, 10}, {13408, 18115, 16, 10},
+    {13425, 18125, 13, 10}, {13439, 18135, 15, 10}, {13455, 18145, 18, 10}, {13474, 18155, 9, 8}, {13484, 18163, 9, 9},
+    {13494, 18172, 9, 10}, {13504, 18182, 14, 10}, {13519, 18192, 20, 10}, {13540, 18202, 8, 10},
+    {13549, 18212, 10, 10}, {13560, 18222, 12, 10}, {13573, 18232, 16, 10}, {13590, 18242, 22, 10},
+    {13613, 18252, 25, 10}, {13639, 18262, 9, 8}, {13649, 18270, 7, 7}, {13657, 18277, 11, 8}, {13669, 18285, 12, 8},
+    {13682, 18293, 12, 9}, {13695, 18302, 12, 10}, {13708, 18312, 11, 10}, {13720, 18322, 9, 10},
+    {13730, 18332, 11, 10}, {13742, 18342, 17, 10}, {13760, 18352, 11, 10}, {13772, 18362, 13, 10},
+    {13786, 18372, 11, 7}, {13798, 18379, 16, 8}, {13824, 18387, 16, 9}, {13841, 18396, 14, 10}, {13856, 18406, 14, 10},
+    {13871, 18416, 13, 7}, {13885, 18432, 23, 8}, {13909, 18440, 27, 8}, {13937, 18448, 18, 8}, {13956, 18456, 18, 9},
+    {13975, 18465, 18, 10}, {13994, 18475, 17, 10}, {14012, 18485, 15, 10}, {14028, 18495, 17, 10},
+    {14046, 18505, 17, 10}, {14064, 18515, 14, 7}, {14079, 18522, 22, 8}, {14102, 18530, 16, 8}, {14119, 18538, 15, 9},
+    {14135, 18547, 11, 8}, {14147, 18555, 13, 9}, {14161, 18564, 14, 9}, {14176, 18573, 13, 9}, {14190, 18582, 12, 9},
+    {14203, 18591, 16, 9}, {14220, 18600, 18, 9}, {3731, 18609, 5, 6}, {3737, 18615, 12, 7}, {3750, 18622, 8, 8},
+    {3759, 18630, 8, 9}, {3768, 18639, 6, 10}, {3775, 18649, 17, 10}, {3793, 18659, 17, 10}, {3811, 18669, 18, 10},
+    {3830, 18679, 18, 10}, {3849, 18689, 12, 10}, {3862, 18699, 15, 10}, {3878, 18709, 19, 10}, {3898, 18719, 19, 10},
+    {3918, 18729, 13, 10}, {3932, 18739, 16, 10}, {3949, 18749, 20, 10}, {3970, 18759, 20, 10}, {3991, 18769, 22, 10},
+    {4014, 18779, 11, 10}, {4026, 18789, 17, 10}, {4044, 18799, 18, 10}, {4063, 18809, 7, 10}, {4096, 18819, 26, 10},
+    {4123, 18829, 12, 8}, {4136, 18837, 12, 9}, {4149, 18846, 18, 10}, {4168, 18856, 17, 10}, {4186, 18866, 13, 10},
+    {4200, 18876, 11, 8}, {4212, 18884, 11, 9}, {4224, 18893, 8, 10}, {4233, 18903, 12, 10}, {4246, 18913, 10, 10},
+    {4257, 18923, 12, 10}, {4270, 18944, 10, 10}, {4281, 18954, 11, 10}, {4293, 18964, 17, 8}, {4311, 18972, 17, 9},
+    {4329, 18981, 19, 10}, {4349, 18991, 18, 10}, {4368, 19001, 16, 10}, {4385, 19011, 17, 8}, {4403, 19019, 17, 8},
+    {4421, 19027, 13, 7}, {4435, 19034, 8, 8}, {4444, 19042, 14, 9}, {4459, 19051, 18, 9}, {4478, 19060, 20, 9},
+    {4499, 19069, 13, 9}, {4513, 19078, 15, 9}, {4529, 19087, 16, 9}, {4546, 19096, 17, 9}, {4564, 19105, 11, 9},
+    {4576, 19114, 12, 9}, {4608, 19123, 25, 9}, {4634, 19132, 13, 9}, {4648, 19141, 17, 9}, {4666, 19150, 27, 9},
+    {4694, 19159, 28, 9}, {4723, 19168, 13, 8}, {4737, 19176, 12, 9}, {4750, 19185, 13, 9}, {4764, 19194, 13, 9},
+    {86821, 19203, 6, 6}, {86828, 19209, 10, 7}, {86839, 19216, 8, 8}, {86848, 19224, 20, 9}, {86869, 19233, 13, 9},
+    {86883, 19242, 26, 9}, {86910, 19251, 28, 9}, {86939, 19260, 12, 9}, {86952, 19269, 23, 9}, {86976, 19278, 10, 8},
+    {86987, 19286, 16, 9}, {87004, 19295, 19, 9}, {87040, 19304, 28, 9}, {87069, 19313, 27, 9}, {87097, 19322, 17, 9},
+    {87115, 19331, 17, 9}, {87133, 19340, 21, 9}, {87155, 19349, 8, 8}, {87164, 19357, 16, 9}, {87181, 19366, 16, 9},
+    {87198, 19375, 13, 9}, {87212, 19384, 13, 10}, {87226, 19394, 17, 11}, {87244, 19405, 17, 11},
+    {87262, 19416, 15, 11}, {87278, 19427, 15, 11}, {87294, 19438, 17, 11}, {87312, 19456, 9, 8}, {87322, 19464, 15, 9},
+    {87338, 19473, 18, 9}, {87357, 19482, 17, 9}, {87375, 19491, 14, 9}, {87390, 19500, 14, 10}, {87405, 19510, 18, 11},
+    {87424, 19521, 16, 11}, {87441, 19532, 16, 11}, {87458, 19543, 14, 11}, {87473, 19554, 20, 11},
+    {87494, 19565, 9, 8}, {87504, 19573, 18, 9}, {87523, 19582, 17, 9}, {87552, 19591, 14, 9}, {87567, 19600, 14, 10},
+    {87582, 19610, 18, 11}, {87601, 19621, 16, 11}, {87618, 19632, 16, 11}, {87635, 19643, 14, 11},
+    {87650, 19654, 8, 8}, {87659, 19662, 16, 9}, {87676, 19671, 13, 9}, {87690, 19680, 13, 10}, {87704, 19690, 10, 11},
+    {87715, 19701, 13, 11}, {87729, 19712, 12, 11}, {87742, 19723, 18, 9}, {87761, 19732, 18, 10},
+    {87780, 19742, 17, 10}, {87798, 19752, 18, 10}, {87817, 19762, 23, 10}, {87841, 19772, 15, 10},
+    {87857, 19782, 16, 10}, {87874, 19792, 17, 10}, {87892, 19802, 22, 10}, {87915, 19812, 16, 10},
+    {87932, 19822, 17, 10}, {87950, 19832, 28, 10}, {87979, 19842, 25, 10}, {88005, 19852, 21, 10},
+    {88027, 19862, 20, 10}, {88064, 19872, 20, 10}, {88085, 19882, 18, 10}, {88104, 19892, 19, 10},
+    {88124, 19902, 20, 10}, {88145, 19912, 28, 10}, {88174, 19922, 26, 10}, {88201, 19932, 21, 10},
+    {88223, 19942, 23, 10}, {88247, 19952, 24, 10}, {88272, 19968, 22, 10}, {88295, 19978, 7, 8}, {88303, 19986, 9, 9},
+    {88313, 19995, 15, 9}, {88329, 20004, 21, 9}, {88351, 20013, 20, 9}, {88372, 20022, 16, 9}, {88389, 20031, 18, 9},
+    {88408, 20040, 17, 9}, {88426, 20049, 23, 10}, {88450, 20059, 26, 10}, {88477, 20069, 25, 10},
+    {88503, 20079, 23, 10}, {88527, 20089, 29, 10}, {88557, 20099, 10, 8}, {88576, 20107, 15, 9}, {88592, 20116, 21, 9},
+    {88614, 20125, 20, 9}, {88635, 20134, 21, 9}, {88657, 20143, 14, 9}, {88672, 20152, 9, 8}, {88682, 20160, 21, 9},
+    {88704, 20169, 18, 9}, {88723, 20178, 22, 9}, {88746, 20187, 19, 9}, {88766, 20196, 17, 9}, {88784, 20205, 20, 9},
+    {88805, 20214, 20, 9}, {88826, 20223, 22, 9}, {88849, 20232, 32, 9}, {88882, 20241, 33, 9}, {88916, 20250, 8, 7},
+    {88925, 20257, 16, 8}, {88942, 20265, 20, 8}, {88963, 20273, 22, 8}, {88986, 20281, 24, 8}, {70716, 20289, 8, 6},
+    {70725, 20295, 15, 7}, {89011, 20302, 8, 6}, {89020, 20308, 10, 7}, {89031, 20315, 15, 8}, {89047, 20323, 15, 9},
+    {89088, 20332, 23, 10}, {89112, 20342, 29, 10}, {89142, 20352, 15, 10}, {89158, 20362, 25, 10},
+    {89184, 20372, 23, 10}, {89208, 20382, 20, 10}, {89229, 20392, 21, 10}, {89251, 20402, 21, 10},
+    {89273, 20412, 24, 10}, {89298, 20422, 22, 10}, {89321, 20432, 30, 10}, {89352, 20442, 30, 10},
+    {89383, 20452, 17, 10}, {89401, 20462, 28, 10}, {89430, 20480, 27, 10}, {89458, 20490, 21, 10},
+    {89480, 20500, 22, 10}, {89503, 20510, 22, 10}, {89526, 20520, 17, 10}, {89544, 20530, 18, 8},
+    {89563, 20538, 18, 9}, {89600, 20547, 22, 10}, {89623, 20557, 18, 10}, {89642, 20567, 17, 8}, {89660, 20575, 17, 9},
+    {89678, 20584, 21, 10}, {89700, 20594, 17, 10}, {89718, 20604, 8, 7}, {89727, 20611, 13, 8}, {89741, 20619, 13, 9},
+    {89755, 20628, 13, 10}, {89769, 20638, 19, 10}, {89789, 20648, 14, 10}, {89804, 20658, 15, 7},
+    {89820, 20665, 20, 8}, {89841, 20673, 20, 9}, {89862, 20682, 20, 10}, {89883, 20692, 23, 10},
+    {89907, 20702, 22, 10}, {89930, 20712, 27, 10}, {89958, 20722, 8, 7}, {89967, 20729, 13, 8}, {89981, 20737, 13, 9},
+    {89995, 20746, 13, 10}, {90009, 20756, 12, 10}, {90022, 20766, 15, 10}, {90038, 20776, 31, 10},
+    {90070, 20786, 32, 10}, {90112, 20796, 29, 10}, {90142, 20806, 30, 10}, {90173, 20816, 20, 10},
+    {90194, 20826, 19, 10}, {90214, 20836, 20, 10}, {90235, 20846, 14, 10}, {90250, 20856, 17, 10},
+    {90268, 20866, 12, 10}, {90281, 20876, 18, 10}, {90300, 20886, 13, 10}, {90314, 20896, 15, 10},
+    {90330, 20906, 20, 10}, {90351, 20916, 19, 10}, {90371, 20926, 16, 10}, {90388, 20936, 19, 10},
+    {90408, 20946, 17, 10}, {90426, 20956, 18, 10}, {90445, 20966, 22, 10}, {90468, 20976, 24, 10},
+    {90493, 20992, 17, 10}, {90511, 21002, 9, 7}, {90521, 21009, 14, 8}, {90536, 21017, 14, 9}, {90551, 21026, 14, 10},
+    {90566, 21036, 13, 10}, {90580, 21046, 21, 10}, {90624, 21056, 20, 10}, {90645, 21066, 26, 10},
+    {90672, 21076, 15, 10}, {90688, 21086, 13, 10}, {90702, 21096, 19, 10}, {90722, 21106, 14, 10},
+    {90737, 21116, 16, 10}, {90754, 21126, 21, 10}, {90776, 21136, 20, 10}, {90797, 21146, 17, 10},
+    {90815, 21156, 16, 10}, {90832, 21166, 22, 10}, {90855, 21176, 23, 10}, {90879, 21186, 22, 10},
+    {90902, 21196, 23, 10}, {90926, 21206, 22, 10}, {90949, 21216, 32, 10}, {90982, 21226, 17, 10},
+    {91000, 21236, 20, 10}, {91021, 21246, 21, 10}, {91043, 21256, 23, 10}, {91067, 21266, 9, 7}, {91077, 21273, 14, 8},
+    {91092, 21281, 14, 9}, {91107, 21290, 14, 10}, {91136, 21300, 17, 10}, {91154, 21310, 20, 10},
+    {91175, 21320, 18, 10}, {91194, 21330, 21, 10}, {91216, 21340, 25, 10}, {91242, 21350, 22, 10},
+    {91265, 21360, 27, 10}, {91293, 21370, 30, 10}, {91324, 21380, 31, 10}, {91356, 21390, 20, 10},
+    {91377, 21400, 20, 10}, {91398, 21410, 19, 10}, {91418, 21420, 19, 10}, {91438, 21430, 15, 10},
+    {91454, 21440, 17, 7}, {91472, 21447, 22, 8}, {91495, 21455, 22, 9}, {91518, 21464, 22, 10}, {91541, 21474, 28, 10},
+    {91570, 21484, 30, 10}, {91601, 21504, 22, 10}, {91648, 21514, 21, 10}, {91670, 21524, 28, 10},
+    {91699, 21534, 27, 10}, {91727, 21544, 28, 10}, {91756, 21554, 22, 10}, {91779, 21564, 17, 7},
+    {91797, 21571, 22, 8}, {91820, 21579, 22, 9}, {91843, 21588, 22, 10}, {91866, 21598, 28, 10},
+    {91895, 21608, 21, 10}, {91917, 21618, 22, 10}, {91940, 21628, 25, 10}, {91966, 21638, 12, 7},
+    {91979, 21645, 17, 8}, {91997, 21653, 17, 9}, {92015, 21662, 17, 10}, {92033, 21672, 29, 10},
+    {92063, 21682, 25, 10}, {92089, 21692, 20, 10}, {92110, 21702, 27, 10}, {92160, 21712, 28, 10},
+    {92189, 21722, 27, 10}, {92217, 21732, 28, 10}, {92246, 21742, 16, 10}, {92263, 21752, 23, 10},
+    {92287, 21762, 18, 10}, {92306, 21772, 10, 7}, {92317, 21779, 15, 8}, {92333, 21787, 15, 9}, {92349, 21796, 15, 10},
+    {92365, 21806, 14, 10}, {92380, 21816, 25, 10}, {92406, 21826, 33, 10}, {92440, 21836, 34, 10},
+    {92475, 21846, 15, 10}, {92491, 21856, 17, 10}, {92509, 21866, 16, 10}, {92526, 21876, 21, 10},
+    {92548, 21886, 14, 7}, {92563, 21893, 19, 8}, {92583, 21901, 19, 9}, {92603, 21910, 19, 10}, {92623, 21920, 24, 10},
+    {92672, 21930, 23, 10}, {92696, 21940, 25, 10}, {92722, 21950, 25, 10}, {92748, 21960, 21, 10},
+    {92770, 21970, 32, 10}, {92803, 21980, 32, 10}, {92836, 21990, 33, 10}, {92870, 22000, 30, 10},
+    {92901, 22016, 31, 10}, {92933, 22026, 20, 10}, {92954, 22036, 23, 7}, {92978, 22043, 28, 8}, {93007, 22051, 28, 9},
+    {93036, 22060, 28, 10}, {93065, 22070, 27, 10}, {93093, 22080, 16, 7}, {93110, 22087, 20, 8}, {93131, 22095, 20, 9},
+    {93152, 22104, 20, 10}, {93184, 22114, 16, 10}, {93201, 22124, 17, 10}, {93219, 22134, 15, 10},
+    {93235, 22144, 21, 10}, {93257, 22154, 8, 7}, {93266, 22161, 13, 8}, {93280, 22169, 13, 9}, {93294, 22178, 13, 10},
+    {93308, 22188, 21, 10}, {93330, 22198, 21, 10}, {113127, 22208, 13, 10}, {93352, 22218, 18, 10},
+    {93371, 22228, 16, 10}, {93388, 22238, 12, 10}, {93401, 22248, 19, 10}, {93421, 22258, 12, 10},
+    {93434, 22268, 14, 8}, {93449, 22276, 20, 9}, {93470, 22285, 14, 10}, {64277, 22295, 9, 6}, {64287, 22301, 16, 7},
+    {64304, 22308, 14, 8}, {64319, 22316, 16, 9}, {64336, 22325, 16, 10}, {64353, 22335, 16, 11},
+    {64370, 22346, 16, 11}, {64387, 22357, 21, 11}, {64409, 22368, 22, 11}, {64432, 22379, 16, 11},
+    {64449, 22390, 23, 11}, {64473, 22401, 15, 11}, {64512, 22412, 22, 11}, {64535, 22423, 22, 11},
+    {64558, 22434, 22, 11}, {64581, 22445, 20, 11}, {64602, 22456, 18, 11}, {64621, 22467, 20, 11},
+    {64642, 22478, 16, 11}, {64659, 22489, 18, 11}, {64678, 22500, 16, 11}, {64695, 22511, 18, 11},
+    {64714, 22528, 15, 11}, {64730, 22539, 13, 8}, {64744, 22547, 15, 9}, {64760, 22556, 15, 10},
+    {64776, 22566, 15, 11}, {64792, 22577, 15, 11}, {64808, 22588, 14, 11}, {64823, 22599, 19, 11},
+    {64843, 22610, 18, 11}, {64862, 22621, 17, 11}, {64880, 22632, 25, 11}, {64906, 22643, 21, 11},
+    {64928, 22654, 13, 8}, {64942, 22662, 17, 9}, {64960, 22671, 17, 10}, {64978, 22681, 18, 11}, {64997, 22692, 20, 9},
+    {65024, 22701, 20, 10}, {65045, 22711, 26, 11}, {65072, 22722, 25, 11}, {65098, 22733, 24, 9},
+    {65123, 22742, 24, 10}, {65148, 22752, 21, 11}, {65170, 22763, 13, 8}, {65184, 22771, 17, 9}, {65202, 22780, 14, 7},
+    {65217, 22787, 19, 8}, {65237, 22795, 15, 9}, {10613, 22804, 5, 6}, {10619, 22810, 16, 7}, {10636, 22817, 16, 8},
+    {10653, 22825, 15, 9}, {10669, 22834, 16, 9}, {10686, 22843, 11, 8}, {10698, 22851, 7, 9}, {10706, 22860, 9, 9},
+    {10716, 22869, 16, 9}, {10733, 22878, 11, 9}, {10752, 22887, 17, 9}, {10770, 22896, 11, 9}, {10782, 22905, 17, 9},
+    {10800, 22914, 18, 9}, {10819, 22923, 20, 9}, {10840, 22932, 25, 9}, {10866, 22941, 26, 9}, {10893, 22950, 28, 9},
+    {10922, 22959, 14, 9}, {10937, 22968, 16, 9}, {10954, 22977, 21, 9}, {10976, 22986, 22, 9}, {10999, 22995, 24, 9},
+    {11024, 23004, 20, 9}, {11045, 23013, 14, 9}, {11060, 23022, 20, 9}, {11081, 23040, 14, 9}, {11096, 23049, 20, 9},
+    {11117, 23058, 21, 9}, {11139, 23067, 14, 9}, {11868, 23076, 6, 6}, {11875, 23082, 17, 7}, {11893, 23089, 17, 8},
+    {11911, 23097, 16, 9}, {11928, 23106, 17, 9}, {11946, 23115, 12, 8}, {11959, 23123, 8, 9}, {11968, 23132, 12, 9},
+    {11981, 23141, 18, 9}, {12000, 23150, 16, 9}, {12017, 23159, 10, 9}, {12409, 23168, 6, 6}, {12416, 23174, 17, 7},
+    {12434, 23181, 17, 8}, {12452, 23189, 16, 9}, {12469, 23198, 17, 9}, {12487, 23207, 12, 8}, {12500, 23215, 8, 9},
+    {12509, 23224, 12, 9}, {12522, 23233, 10, 9}, {12533, 23242, 16, 9}, {69448, 23251, 18, 6}, {69467, 23257, 15, 7},
+    {69483, 23264, 15, 8}, {69499, 23272, 15, 9}, {69515, 23281, 16, 10}, {65253, 23291, 15, 6}, {65269, 23297, 19, 7},
+    {65289, 23304, 17, 8}, {65307, 23312, 17, 9}, {65325, 23321, 16, 10}, {65342, 23331, 17, 10},
+    {65360, 23341, 21, 10}, {65382, 23351, 17, 10}, {65400, 23361, 22, 10}, {65423, 23371, 24, 10},
+    {65448, 23381, 26, 10}, {65475, 23391, 27, 10}, {2263, 23401, 12, 4}, {20741, 23401, 12, 4}, {2276, 23405, 7, 4},
+    {20754, 23405, 7, 4}, {2284, 23409, 11, 5}, {20790, 23409, 11, 5}, {58003, 23414, 12, 11}, {57986, 23425, 16, 11},
+    {57722, 23436, 13, 11}, {57736, 23447, 12, 11}, {57764, 23458, 18, 11}, {57783, 23469, 11, 11},
+    {57795, 23480, 20, 11}, {57816, 23491, 7, 11}, {57749, 23502, 14, 11}, {57426, 23513, 8, 11},
+    {57435, 23524, 17, 11}, {57824, 23535, 13, 11}, {57838, 23552, 10, 11}, {57856, 23563, 20, 11},
+    {57898, 23574, 19, 11}, {57877, 23585, 20, 11}, {57468, 23596, 11, 11}, {57453, 23607, 14, 11},
+    {57480, 23618, 20, 11}, {59483, 23629, 12, 11}, {59496, 23640, 9, 11}, {59506, 23651, 9, 11},
+    {59516, 23662, 12, 11}, {59529, 23673, 15, 11}, {59545, 23684, 12, 11}, {59571, 23695, 16, 11},
+    {59588, 23706, 18, 11}, {59622, 23717, 10, 11}, {59633, 23728, 18, 11}, {59652, 23739, 13, 11},
+    {59666, 23750, 23, 11}, {59690, 23761, 13, 11}, {59704, 23772, 18, 11}, {59723, 23783, 13, 11},
+    {59286, 23794, 14, 11}, {59328, 23805, 20, 11}, {59349, 23816, 14, 11}, {59364, 23827, 10, 11},
+    {59392, 23838, 15, 11}, {59408, 23849, 8, 11}, {59417, 23860, 17, 11}, {59737, 23871, 11, 11},
+    {59749, 23882, 11, 11}, {59761, 23893, 10, 11}, {59435, 23904, 12, 11}, {59448, 23915, 10, 11},
+    {59220, 23926, 14, 11}, {59607, 23937, 14, 11}, {59558, 23948, 12, 11}, {59772, 23959, 21, 11},
+    {59459, 23970, 23, 11}, {59318, 23981, 9, 11}, {60176, 23992, 34, 11}, {60211, 23992, 35, 11},
+    {57626, 24003, 14, 12}, {60707, 24015, 32, 11}, {14652, 24026, 8, 11}, {14661, 24026, 8, 11},
+    {55503, 24026, 11, 11}, {55515, 24037, 18, 11}, {75839, 24048, 9, 7}, {751, 24064, 23, 10}, {775, 24074, 24, 10},
+    {800, 24084, 22, 10}, {17377, 24094, 8, 10}, {17408, 24094, 27, 10}, {74942, 24094, 21, 10}, {823, 24104, 23, 10},
+    {847, 24114, 35, 10}, {16398, 24114, 9, 10}, {16408, 24114, 33, 10}, {883, 24124, 35, 10}, {16442, 24124, 9, 10},
+    {16452, 24124, 33, 10}, {104049, 24124, 30, 10}, {104448, 24124, 41, 10}, {75849, 24134, 7, 10},
+    {75857, 24144, 6, 10}, {109004, 24154, 26, 10}, {919, 24164, 25, 10}, {109056, 24164, 26, 10}, {945, 24174, 9, 9},
+    {77619, 24174, 22, 9}, {74964, 24183, 26, 9}, {955, 24192, 26, 10}, {16486, 24192, 9, 10}, {16496, 24192, 28, 10},
+    {79360, 24192, 36, 10}, {106656, 24192, 28, 10}, {982, 24202, 27, 10}, {77642, 24202, 23, 10},
+    {79397, 24202, 17, 10}, {106685, 24202, 28, 10}, {1024, 24212, 25, 10}, {16525, 24212, 5, 10},
+    {16531, 24212, 29, 10}, {103996, 24212, 26, 10}, {104333, 24212, 37, 10}, {106714, 24212, 22, 10},
+    {106737, 24222, 20, 11}, {1050, 24233, 12, 10}, {16561, 24233, 5, 10}, {16567, 24233, 31, 10},
+    {77666, 24233, 22, 10}, {79415, 24233, 14, 10}, {106758, 24233, 13, 10}, {1063, 24243, 18, 11},
+    {77689, 24243, 13, 11}, {79430, 24243, 12, 11}, {106772, 24243, 22, 11}, {1082, 24254, 17, 10},
+    {77703, 24254, 36, 10}, {106795, 24254, 14, 10}, {1100, 24264, 16, 10}, {77740, 24264, 37, 10},
+    {106810, 24264, 13, 10}, {1117, 24274, 21, 10}, {77778, 24274, 41, 10}, {106824, 24274, 18, 10},
+    {1139, 24284, 24, 10}, {77824, 24284, 46, 10}, {106843, 24284, 21, 10}, {1164, 24294, 22, 10},
+    {77871, 24294, 16, 10}, {106865, 24294, 26, 10}, {1187, 24304, 32, 10}, {77888, 24304, 23, 10},
+    {106892, 24304, 33, 10}, {1220, 24314, 21, 10}, {77912, 24314, 12, 10}, {106926, 24314, 22, 10},
+    {1242, 24324, 25, 10}, {77925, 24324, 16, 10}, {106949, 24324, 26, 10}, {1268, 24334, 25, 10},
+    {77942, 24334, 16, 10}, {106976, 24334, 26, 10}, {107008, 24344, 32, 10}, {75499, 24354, 25, 10},
+    {77959, 24354, 19, 10}, {75525, 24364, 21, 10}, {77979, 24364, 15, 10}, {75419, 24374, 9, 10},
+    {77995, 24374, 14, 10}, {79443, 24374, 25, 10}, {75429, 24384, 14, 10}, {78010, 24384, 17, 10},
+    {75444, 24394, 20, 10}, {78028, 24394, 27, 10}, {79469, 24394, 14, 10}, {74991, 24404, 28, 10},
+    {1294, 24414, 28, 10}, {78056, 24414, 24, 10}, {1323, 24424, 25, 9}, {1349, 24433, 32, 10}, {1382, 24443, 29, 10},
+    {109500, 24443, 33, 10}, {1412, 24453, 16, 10}, {109534, 24453, 20, 10}, {21239, 24463, 7, 9},
+    {21247, 24463, 18, 9}, {73930, 24463, 36, 9}, {29037, 24472, 11, 9}, {29049, 24472, 23, 9}, {73967, 24481, 33, 9},
+    {1429, 24490, 27, 9}, {1457, 24499, 31, 9}, {77038, 24499, 25, 9}, {108503, 24499, 25, 9}, {1489, 24508, 22, 10},
+    {77537, 24508, 25, 10}, {79484, 24508, 16, 10}, {1536, 24518, 24, 10}, {24882, 24518, 16, 10},
+    {24899, 24518, 25, 10}, {55113, 24518, 16, 10}, {77563, 24518, 16, 10}, {79501, 24518, 15, 10},
+    {107041, 24518, 26, 10}, {1561, 24528, 23, 10}, {24925, 24528, 5, 10}, {24931, 24528, 29, 10},
+    {55130, 24528, 16, 10}, {77580, 24528, 14, 10}, {77595, 24528, 19, 10}, {77615, 24528, 3, 10}, {1585, 24538, 19, 9},
+    {1605, 24547, 24, 9}, {77064, 24547, 10, 9}, {1630, 24556, 32, 9}, {77075, 24556, 28, 9}, {1663, 24576, 22, 9},
+    {77104, 24576, 23, 9}, {1686, 24585, 22, 9}, {77128, 24585, 16, 9}, {1709, 24594, 20, 9}, {77145, 24594, 20, 9},
+    {79517, 24594, 42, 9}, {1730, 24603, 27, 9}, {77166, 24603, 18, 9}, {1758, 24612, 26, 9}, {43476, 24612, 13, 9},
+    {43520, 24612, 30, 9}, {77185, 24612, 32, 9}, {77218, 24612, 20, 9}, {79974, 24612, 21, 9}, {75020, 24621, 25, 9},
+    {77239, 24630, 12, 9}, {1785, 24639, 31, 9}, {43551, 24639, 15, 9}, {43567, 24639, 40, 9}, {77252, 24639, 20, 9},
+    {78570, 24639, 30, 9}, {1817, 24648, 33, 9}, {77273, 24648, 27, 9}, {1851, 24657, 36, 9}, {77312, 24657, 30, 9},
+    {1888, 24666, 23, 9}, {77343, 24666, 12, 9}, {1912, 24675, 18, 9}, {77356, 24675, 23, 9}, {1931, 24684, 31, 9},
+    {77380, 24684, 32, 9}, {1963, 24693, 28, 9}, {77413, 24693, 29, 9}, {1992, 24702, 22, 9}, {2015, 24711, 26, 9},
+    {77443, 24711, 35, 9}, {2048, 24720, 25, 9}, {77479, 24720, 18, 9}, {109568, 24720, 29, 9}, {2074, 24729, 24, 9},
+    {77498, 24729, 21, 9}, {2099, 24738, 29, 9}, {77520, 24738, 16, 9}, {75651, 24747, 28, 9}, {2129, 24756, 22, 9},
+    {2152, 24765, 26, 9}, {43432, 24765, 15, 9}, {43448, 24765, 27, 9}, {2179, 24774, 20, 10}, {43388, 24774, 15, 10},
+    {43404, 24774, 27, 10}, {78081, 24784, 29, 10}, {29673, 24794, 13, 11}, {29696, 24794, 24, 11},
+    {74001, 24794, 19, 11}, {78521, 24794, 13, 11}, {82657, 24794, 39, 11}, {106064, 24794, 22, 11},
+    {29721, 24805, 14, 11}, {29736, 24805, 31, 11}, {74021, 24805, 30, 11}, {78535, 24805, 21, 11},
+    {82697, 24805, 46, 11}, {106087, 24805, 31, 11}, {29768, 24816, 13, 11}, {29782, 24816, 23, 11},
+    {74052, 24816, 20, 11}, {78557, 24816, 12, 11}, {82744, 24816, 38, 11}, {106119, 24816, 21, 11},
+    {75465, 24827, 33, 10}, {78111, 24827, 24, 10}, {82256, 24827, 12, 10}, {104080, 24827, 26, 10},
+    {104490, 24827, 37, 10}, {78136, 24837, 26, 10}, {78163, 24847, 29, 10}, {75547, 24857, 32, 10},
+    {59272, 24867, 13, 11}, {109383, 24878, 14, 10}, {109398, 24888, 13, 10}, {54765, 24898, 8, 10},
+    {60805, 24898, 19, 10}, {35336, 24908, 10, 10}, {35347, 24908, 10, 10}, {31951, 24918, 10, 11},
+    {31962, 24918, 10, 11}, {52718, 24918, 11, 11}, {35358, 24929, 10, 10}, {35369, 24929, 10, 10},
+    {31973, 24939, 10, 11}, {31984, 24939, 10, 11}, {52697, 24939, 11, 11}, {36399, 24950, 7, 7}, {36407, 24957, 7, 8},
+    {36415, 24965, 7, 9}, {36423, 24974, 7, 10}, {36431, 24984, 7, 10}, {36439, 24994, 5, 10}, {36445, 25004, 5, 10},
+    {36451, 25014, 7, 10}, {36459, 25024, 11, 10}, {36471, 25034, 12, 10}, {36484, 25044, 8, 10},
+    {36493, 25054, 11, 10}, {36505, 25064, 6, 8}, {36512, 25072, 8, 9}, {36521, 25088, 12, 9}, {36534, 25097, 12, 9},
+    {36547, 25106, 12, 9}, {36560, 25115, 12, 9}, {36573, 25124, 12, 9}, {36586, 25133, 15, 9}, {36602, 25142, 15, 9},
+    {36618, 25151, 15, 9}, {36634, 25160, 15, 9}, {36650, 25169, 12, 9}, {36663, 25178, 14, 9}, {36678, 25187, 9, 9},
+    {36688, 25196, 9, 9}, {36698, 25205, 9, 9}, {36708, 25214, 14, 9}, {36723, 25223, 14, 9}, {36738, 25232, 13, 9},
+    {36752, 25241, 13, 9}, {36766, 25250, 13, 9}, {36780, 25259, 13, 9}, {36794, 25268, 13, 9}, {36808, 25277, 15, 9},
+    {36824, 25286, 10, 9}, {36835, 25295, 10, 9}, {36846, 25304, 10, 9}, {36864, 25313, 11, 9}, {36876, 25322, 12, 9},
+    {36889, 25331, 15, 9}, {36905, 25340, 8, 8}, {36914, 25348, 8, 9}, {36923, 25357, 8, 10}, {36932, 25367, 8, 10},
+    {36941, 25377, 10, 10}, {36952, 25387, 9, 10}, {36962, 25397, 9, 10}, {36972, 25407, 9, 10}, {36982, 25417, 12, 10},
+    {36995, 25427, 8, 8}, {37004, 25435, 8, 9}, {37013, 25444, 8, 10}, {37022, 25454, 7, 10}, {37030, 25464, 9, 10},
+    {37040, 25474, 10, 10}, {37051, 25484, 13, 10}, {37065, 25494, 8, 10}, {37074, 25504, 8, 10}, {37083, 25514, 7, 10},
+    {37091, 25524, 10, 10}, {37102, 25534, 14, 10}, {37117, 25544, 11, 10}, {37129, 25554, 12, 10},
+    {37142, 25564, 11, 10}, {37154, 25574, 12, 10}, {37167, 25584, 10, 10}, {37178, 25600, 11, 10},
+    {37190, 25610, 12, 10}, {37203, 25620, 11, 10}, {37215, 25630, 7, 8}, {37223, 25638, 7, 9}, {37231, 25647, 7, 10},
+    {37239, 25657, 7, 10}, {37247, 25667, 6, 10}, {37254, 25677, 8, 10}, {37263, 25687, 9, 10}, {37273, 25697, 11, 10},
+    {37285, 25707, 11, 10}, {37297, 25717, 12, 10}, {37310, 25727, 11, 8}, {37322, 25735, 7, 9}, {37330, 25744, 11, 9},
+    {37342, 25753, 8, 9}, {37351, 25762, 9, 9}, {37361, 25771, 8, 9}, {37376, 25780, 11, 9}, {37388, 25789, 15, 9},
+    {37404, 25798, 12, 9}, {37417, 25807, 9, 9}, {37427, 25816, 11, 9}, {37439, 25825, 9, 9}, {37449, 25834, 12, 9},
+    {37462, 25843, 12, 9}, {37475, 25852, 14, 9}, {37490, 25861, 12, 9}, {37503, 25870, 12, 9}, {37516, 25879, 14, 9},
+    {37531, 25888, 17, 9}, {37549, 25897, 11, 9}, {37561, 25906, 15, 9}, {37577, 25915, 15, 9}, {37593, 25924, 13, 9},
+    {37607, 25933, 15, 9}, {37623, 25942, 11, 9}, {37635, 25951, 12, 9}, {37648, 25960, 13, 9}, {37662, 25969, 13, 9},
+    {37676, 25978, 17, 9}, {37694, 25987, 12, 9}, {37707, 25996, 11, 8}, {37719, 26004, 15, 8}, {37735, 26012, 13, 9},
+    {37749, 26021, 12, 10}, {37762, 26031, 12, 11}, {37775, 26042, 12, 12}, {37788, 26054, 14, 12},
+    {37803, 26066, 17, 12}, {37821, 26078, 14, 12}, {37836, 26090, 17, 12}, {37854, 26112, 14, 12},
+    {37869, 26124, 14, 12}, {37888, 26136, 12, 12}, {37901, 26148, 12, 12}, {37914, 26160, 10, 12},
+    {37925, 26172, 12, 12}, {37938, 26184, 14, 12}, {37953, 26196, 17, 12}, {37971, 26208, 17, 12},
+    {37989, 26220, 17, 12}, {38007, 26232, 17, 12}, {38025, 26244, 12, 12}, {38038, 26256, 12, 12},
+    {38051, 26268, 12, 12}, {38064, 26280, 12, 12}, {38077, 26292, 12, 12}, {38090, 26304, 12, 12},
+    {38103, 26316, 12, 12}, {38116, 26328, 12, 12}, {38129, 26340, 12, 12}, {38142, 26352, 13, 12},
+    {38156, 26364, 11, 9}, {38168, 26373, 14, 10}, {38183, 26383, 10, 10}, {38194, 26393, 10, 11},
+    {38205, 26404, 10, 12}, {38216, 26416, 9, 12}, {38226, 26428, 9, 12}, {38236, 26440, 10, 12},
+    {38247, 26452, 11, 12}, {38259, 26464, 12, 9}, {38272, 26473, 11, 10}, {38284, 26483, 11, 11},
+    {38296, 26494, 11, 12}, {38308, 26506, 12, 12}, {38321, 26518, 11, 12}, {38333, 26530, 14, 12},
+    {38348, 26542, 11, 12}, {38360, 26554, 12, 12}, {38373, 26566, 9, 12}, {38383, 26578, 9, 12},
+    {38400, 26590, 10, 12}, {38411, 26602, 12, 12}, {38424, 26624, 15, 12}, {38440, 26636, 14, 12},
+    {38455, 26648, 9, 9}, {38465, 26657, 12, 10}, {38478, 26667, 18, 10}, {38497, 26677, 18, 11},
+    {38516, 26688, 18, 12}, {38535, 26700, 19, 12}, {38555, 26712, 18, 12}, {38574, 26724, 17, 10},
+    {38592, 26734, 17, 11}, {38610, 26745, 17, 12}, {38628, 26757, 18, 12}, {38647, 26769, 17, 12},
+    {38665, 26781, 18, 10}, {38684, 26791, 18, 11}, {38703, 26802, 18, 12}, {38722, 26814, 19, 12},
+    {38742, 26826, 18, 12}, {38761, 26838, 18, 10}, {38780, 26848, 18, 11}, {38799, 26859, 18, 12},
+    {38818, 26871, 19, 12}, {38838, 26883, 18, 12}, {38857, 26895, 10, 8}, {38868, 26903, 17, 9},
+    {38886, 26912, 13, 10}, {38912, 26922, 16, 11}, {38929, 26933, 19, 11}, {38949, 26944, 15, 11},
+    {38965, 26955, 17, 11}, {38983, 26966, 9, 8}, {38993, 26974, 9, 9}, {39003, 26983, 9, 10}, {39013, 26993, 8, 10},
+    {39022, 27003, 8, 10}, {39031, 27013, 7, 10}, {39039, 27023, 13, 10}, {39053, 27033, 12, 10}, {39066, 27043, 8, 8},
+    {39075, 27051, 18, 9}, {39094, 27060, 13, 9}, {39108, 27069, 13, 10}, {39122, 27079, 13, 11},
+    {39136, 27090, 12, 11}, {39149, 27101, 16, 11}, {39166, 27112, 13, 11}, {39180, 27136, 21, 11},
+    {39202, 27147, 19, 11}, {39222, 27158, 22, 11}, {39245, 27169, 20, 11}, {39266, 27180, 15, 11},
+    {39282, 27191, 13, 11}, {39296, 27202, 13, 11}, {39310, 27213, 17, 11}, {39328, 27224, 24, 11},
+    {39353, 27235, 7, 8}, {39361, 27243, 12, 9}, {39374, 27252, 10, 9}, {39385, 27261, 11, 9}, {39397, 27270, 12, 9},
+    {39424, 27279, 12, 9}, {39437, 27288, 23, 9}, {39461, 27297, 17, 9}, {39479, 27306, 19, 9}, {39499, 27315, 19, 9},
+    {39519, 27324, 25, 9}, {39545, 27333, 18, 9}, {39564, 27342, 8, 8}, {39573, 27350, 12, 9}, {39586, 27359, 12, 9},
+    {39599, 27368, 16, 9}, {39616, 27377, 17, 9}, {39634, 27386, 7, 8}, {39642, 27394, 7, 9}, {39650, 27403, 7, 10},
+    {39658, 27413, 12, 10}, {39671, 27423, 12, 9}, {39684, 27432, 7, 10}, {39692, 27442, 8, 9}, {39701, 27451, 8, 10},
+    {39710, 27461, 11, 10}, {110501, 27471, 29, 10}, {112695, 27471, 29, 10}, {99246, 27481, 21, 10},
+    {99328, 27491, 25, 10}, {99354, 27501, 21, 10}, {99376, 27511, 15, 10}, {99392, 27521, 15, 10},
+    {99408, 27531, 16, 10}, {99425, 27541, 25, 10}, {99451, 27551, 29, 10}, {99481, 27561, 28, 10},
+    {99268, 27571, 22, 10}, {99291, 27581, 12, 10}, {15853, 27591, 6, 9}, {15860, 27591, 6, 9}, {104623, 27600, 16, 10},
+    {104640, 27600, 7, 10}, {59048, 27610, 27, 10}, {59185, 27620, 5, 10}, {59191, 27630, 8, 10},
+    {59235, 27648, 15, 10}, {59251, 27648, 11, 10}, {58521, 27658, 11, 10}, {58533, 27668, 10, 10},
+    {58544, 27678, 14, 10}, {58559, 27688, 25, 10}, {60928, 27698, 25, 10}, {60954, 27708, 29, 10},
+    {60984, 27718, 33, 10}, {61018, 27728, 35, 10}, {60137, 27738, 13, 10}, {59877, 27748, 23, 10},
+    {60825, 27758, 23, 10}, {60866, 27768, 18, 10}, {59129, 27778, 13, 11}, {57666, 27789, 10, 13},
+    {57677, 27802, 7, 13}, {57685, 27815, 10, 13}, {57708, 27828, 13, 13}, {58585, 27841, 11, 13},
+    {58597, 27854, 12, 13}, {58610, 27867, 10, 13}, {59794, 27880, 14, 10}, {59809, 27890, 17, 10},
+    {59301, 27900, 16, 10}, {101175, 27910, 17, 10}, {101193, 27920, 20, 10}, {101214, 27930, 11, 10},
+    {101226, 27940, 12, 10}, {101239, 27950, 12, 10}, {101252, 27960, 18, 10}, {101271, 27970, 14, 10},
+    {101286, 27980, 12, 10}, {101299, 27990, 15, 10}, {101315, 28000, 7, 10}, {101323, 28010, 18, 10},
+    {101342, 28020, 13, 10}, {101356, 28030, 13, 10}, {101376, 28040, 12, 10}, {101389, 28050, 9, 10},
+    {100468, 28060, 16, 10}, {100485, 28070, 26, 10}, {100512, 28080, 21, 10}, {100976, 28090, 22, 10},
+    {100786, 28100, 18, 10}, {58016, 28110, 11, 12}, {58028, 28122, 11, 12}, {98868, 28134, 20, 11},
+    {98889, 28145, 17, 11}, {98907, 28160, 14, 11}, {98922, 28171, 18, 11}, {98941, 28182, 27, 11},
+    {98969, 28193, 22, 11}, {100092, 28193, 4, 11}, {98992, 28204, 20, 11}, {99013, 28215, 25, 11},
+    {99039, 28226, 26, 11}, {99066, 28237, 19, 11}, {99086, 28248, 18, 11}, {99105, 28259, 27, 11},
+    {99133, 28270, 17, 11}, {99151, 28281, 14, 11}, {99166, 28292, 9, 10}, {99523, 28302, 17, 11},
+    {99541, 28313, 28, 11}, {99570, 28324, 15, 11}, {99586, 28335, 17, 11}, {99604, 28346, 19, 11},
+    {99624, 28357, 10, 11}, {100058, 28368, 17, 11}, {100076, 28379, 15, 11}, {101931, 28390, 14, 10},
+    {101888, 28400, 8, 10}, {101946, 28410, 16, 10}, {101963, 28420, 17, 10}, {101897, 28430, 20, 10},
+    {101539, 28440, 15, 10}, {101555, 28450, 15, 10}, {101571, 28460, 14, 10}, {101586, 28470, 15, 10},
+    {101602, 28480, 17, 10}, {101620, 28490, 18, 10}, {101639, 28500, 14, 10}, {101654, 28510, 15, 10},
+    {101670, 28520, 16, 10}, {101746, 28530, 14, 10}, {101761, 28540, 16, 10}, {101778, 28550, 16, 10},
+    {101795, 28560, 21, 10}, {101817, 28570, 13, 10}, {101831, 28580, 15, 10}, {101981, 28590, 12, 10},
+    {101994, 28600, 23, 10}, {102018, 28610, 14, 10}, {102033, 28620, 15, 10}, {102049, 28630, 15, 10},
+    {102065, 28640, 18, 10}, {102084, 28650, 17, 10}, {102102, 28672, 21, 10}, {101847, 28682, 15, 10},
+    {101687, 28692, 21, 10}, {101709, 28702, 20, 10}, {101918, 28712, 12, 10}, {102124, 28722, 15, 10},
+    {101863, 28732, 20, 10}, {101730, 28742, 15, 10}, {102140, 28752, 17, 10}, {102158, 28762, 21, 10},
+    {102180, 28772, 18, 10}, {102199, 28782, 14, 10}, {102214, 28792, 14, 10}, {102229, 28802, 20, 10},
+    {102250, 28812, 29, 10}, {102280, 28822, 21, 10}, {102302, 28832, 16, 10}, {102319, 28842, 27, 10},
+    {102347, 28852, 22, 10}, {102400, 28862, 30, 10}, {102431, 28872, 14, 10}, {102446, 28882, 20, 10},
+    {102467, 28892, 19, 10}, {102487, 28902, 17, 10}, {102505, 28912, 13, 10}, {102519, 28922, 22, 10},
+    {102542, 28932, 22, 10}, {102565, 28942, 23, 10}, {102589, 28952, 25, 10}, {102615, 28962, 21, 10},
+    {102637, 28972, 29, 10}, {102683, 28982, 17, 10}, {102747, 28992, 11, 10}, {102667, 29002, 15, 10},
+    {102759, 29012, 15, 10}, {102775, 29022, 15, 10}, {102791, 29032, 13, 10}, {102805, 29042, 11, 10},
+    {102817, 29052, 10, 10}, {102828, 29062, 17, 10}, {102701, 29072, 18, 10}, {102720, 29082, 26, 10},
+    {102846, 29092, 18, 10}, {39722, 29102, 7, 7}, {39730, 29109, 14, 8}, {39745, 29117, 9, 9}, {39755, 29126, 13, 9},
+    {39769, 29135, 13, 10}, {39783, 29145, 13, 11}, {39797, 29156, 14, 12}, {39812, 29168, 20, 12},
+    {39833, 29184, 23, 12}, {39857, 29196, 12, 12}, {39870, 29208, 13, 12}, {39884, 29220, 15, 12},
+    {39900, 29232, 12, 9}, {39913, 29241, 16, 10}, {39936, 29251, 15, 10}, {39952, 29261, 18, 11},
+    {39971, 29272, 19, 11}, {39991, 29283, 19, 12}, {40011, 29295, 13, 13}, {40025, 29308, 15, 13},
+    {40041, 29321, 12, 13}, {40054, 29334, 13, 13}, {40068, 29347, 17, 13}, {40086, 29360, 16, 13},
+    {40103, 29373, 15, 13}, {40119, 29386, 15, 13}, {40135, 29399, 14, 13}, {40150, 29412, 20, 11},
+    {40171, 29423, 20, 12}, {40192, 29435, 19, 13}, {40212, 29448, 18, 13}, {40231, 29461, 19, 13},
+    {40251, 29474, 14, 13}, {40266, 29487, 20, 11}, {40287, 29498, 20, 12}, {40308, 29510, 17, 13},
+    {40326, 29523, 15, 13}, {40342, 29536, 14, 10}, {40357, 29546, 19, 11}, {40377, 29557, 19, 11},
+    {40397, 29568, 7, 9}, {40405, 29577, 7, 9}, {40413, 29586, 21, 10}, {40448, 29596, 14, 10}, {40463, 29606, 12, 10},
+    {40476, 29616, 12, 11}, {40489, 29627, 11, 12}, {40501, 29639, 14, 12}, {40516, 29651, 13, 12},
+    {40530, 29663, 14, 9}, {40545, 29672, 15, 9}, {40561, 29681, 13, 10}, {40575, 29696, 14, 11},
+    {40590, 29707, 16, 11}, {40607, 29718, 14, 11}, {40622, 29729, 17, 11}, {40640, 29740, 17, 12},
+    {40658, 29752, 18, 13}, {40677, 29765, 18, 13}, {40696, 29778, 15, 10}, {40712, 29788, 14, 11},
+    {40727, 29799, 14, 12}, {40742, 29811, 10, 13}, {40753, 29824, 10, 13}, {40764, 29837, 9, 13},
+    {40774, 29850, 13, 13}, {40788, 29863, 11, 13}, {40800, 29876, 14, 9}, {40815, 29885, 18, 10},
+    {40834, 29895, 18, 11}, {40853, 29906, 15, 12}, {40869, 29918, 17, 12}, {40887, 29930, 14, 9},
+    {40902, 29939, 17, 10}, {40920, 29949, 17, 11}, {40938, 29960, 14, 12}, {40960, 29972, 18, 12},
+    {40979, 29984, 14, 12}, {40994, 29996, 17, 12}, {41012, 30008, 12, 12}, {41025, 30020, 15, 8},
+    {41041, 30028, 21, 9}, {41063, 30037, 21, 10}, {41085, 30047, 21, 10}, {41107, 30057, 20, 10},
+    {41128, 30067, 20, 9}, {41149, 30076, 18, 10}, {41168, 30086, 18, 11}, {41187, 30097, 12, 12},
+    {41200, 30109, 14, 12}, {41215, 30121, 14, 12}, {41230, 30133, 17, 10}, {41248, 30143, 17, 11},
+    {41266, 30154, 15, 12}, {41282, 30166, 22, 12}, {41305, 30178, 18, 12}, {41324, 30190, 18, 12},
+    {41343, 30208, 20, 12}, {41364, 30220, 27, 9}, {41392, 30229, 32, 10}, {41425, 30239, 35, 11},
+    {41472, 30250, 26, 10}, {41499, 30260, 33, 10}, {41533, 30270, 27, 11}, {41561, 30281, 27, 11},
+    {41589, 30292, 19, 10}, {41609, 30302, 17, 11}, {41627, 30313, 16, 11}, {41644, 30324, 16, 12},
+    {41661, 30336, 16, 13}, {41678, 30349, 18, 13}, {41697, 30362, 14, 13}, {41712, 30375, 20, 11},
+    {41733, 30386, 20, 11}, {41754, 30397, 18, 11}, {41773, 30408, 16, 11}, {41790, 30419, 20, 11},
+    {41811, 30430, 20, 11}, {41832, 30441, 19, 11}, {41852, 30452, 19, 8}, {41872, 30460, 16, 9},
+    {41889, 30469, 10, 10}, {41900, 30479, 15, 10}, {41916, 30489, 16, 9}, {113171, 30498, 5, 10},
+    {113177, 30508, 6, 10}, {113184, 30518, 7, 10}, {113192, 30528, 3, 10}, {113196, 30538, 6, 10},
+    {113203, 30548, 6, 10}, {41933, 30558, 6, 10}, {113210, 30568, 7, 10}, {113218, 30578, 4, 10},
+    {113121, 30588, 5, 10}, {113223, 30598, 4, 10}, {113228, 30608, 7, 10}, {113236, 30618, 5, 10},
+    {113242, 30628, 6, 10}, {113249, 30638, 3, 10}, {113253, 30648, 6, 10}, {113260, 30658, 9, 10},
+    {41940, 30668, 14, 9}, {41955, 30677, 16, 10}, {41984, 30687, 17, 10}, {42002, 30697, 20, 10},
+    {42023, 30707, 20, 10}, {42044, 30720, 20, 10}, {42065, 30730, 21, 10}, {42087, 30740, 18, 10},
+    {42106, 30750, 20, 10}, {42127, 30760, 21, 10}, {42149, 30770, 19, 10}, {42169, 30780, 25, 8},
+    {42195, 30788, 20, 9}, {42216, 30797, 13, 10}, {42230, 30807, 16, 10}, {42247, 30817, 15, 10},
+    {42263, 30827, 26, 9}, {42290, 30836, 18, 8}, {42309, 30844, 18, 9}, {42328, 30853, 13, 9}, {42342, 30862, 13, 10},
+    {42356, 30872, 12, 10}, {42369, 30882, 14, 10}, {42384, 30892, 12, 11}, {42397, 30903, 14, 11},
+    {42412, 30914, 18, 10}, {42431, 30924, 18, 10}, {42450, 30934, 19, 9}, {42470, 30943, 14, 11},
+    {29515, 30954, 15, 10}, {29531, 30954, 22, 10}, {54036, 30954, 30, 10}, {78601, 30954, 13, 10},
+    {78615, 30954, 38, 10}, {108469, 30954, 33, 10}, {29554, 30964, 17, 10}, {29572, 30964, 24, 10},
+    {79965, 30964, 8, 10}, {29597, 30974, 17, 10}, {29615, 30974, 24, 10}, {29640, 30984, 12, 10},
+    {29653, 30984, 19, 10}, {30226, 30994, 9, 9}, {30236, 30994, 6, 9}, {85302, 31003, 10, 9}, {104609, 31003, 13, 9},
+    {101413, 31012, 8, 10}, {101422, 31022, 8, 10}, {101431, 31032, 11, 10}, {101443, 31042, 9, 10},
+    {101453, 31052, 10, 10}, {101464, 31062, 13, 10}, {101478, 31072, 14, 10}, {101493, 31082, 13, 10},
+    {101507, 31092, 12, 10}, {101520, 31102, 9, 10}, {101530, 31112, 8, 10}, {60556, 31122, 31, 11},
+    {99510, 31133, 12, 14}, {101399, 31147, 13, 14}, {99635, 31161, 16, 12}, {99652, 31173, 17, 11},
+    {99670, 31184, 11, 11}, {99682, 31195, 16, 11}, {99699, 31206, 17, 11}, {99717, 31217, 25, 11},
+    {99743, 31232, 8, 11}, {99752, 31243, 8, 11}, {99761, 31254, 18, 11}, {99780, 31265, 21, 11},
+    {99802, 31276, 25, 11}, {99840, 31287, 23, 11}, {99864, 31298, 19, 11}, {99884, 31309, 21, 11},
+    {99906, 31320, 23, 11}, {99930, 31331, 21, 11}, {99952, 31342, 15, 11}, {99968, 31353, 25, 11},
+    {99994, 31364, 15, 11}, {100010, 31375, 22, 11}, {100033, 31386, 24, 11}, {45019, 31397, 22, 9},
+    {45056, 31397, 40, 9}, {110559, 31406, 19, 10}, {2296, 31416, 8, 4}, {20762, 31416, 8, 4}, {54500, 31420, 10, 5},
+    {54511, 31420, 7, 5}, {54519, 31425, 13, 6}, {31862, 31431, 9, 6}, {54533, 31437, 18, 7}, {54552, 31444, 19, 7},
+    {54572, 31451, 18, 7}, {31872, 31458, 16, 7}, {31889, 31458, 18, 7}, {54591, 31458, 22, 7}, {107710, 31458, 19, 7},
+    {31908, 31465, 9, 7}, {31918, 31465, 20, 7}, {54614, 31465, 15, 7}, {75399, 31465, 19, 7}, {78193, 31465, 18, 7},
+    {107730, 31465, 12, 7}, {54630, 31472, 13, 7}, {54644, 31479, 21, 8}, {54666, 31487, 23, 8}, {54690, 31495, 23, 8},
+    {54714, 31503, 23, 8}, {55047, 31511, 15, 6}, {54758, 31517, 6, 7}, {54738, 31524, 6, 6}, {54745, 31524, 5, 6},
+    {16218, 31530, 4, 6}, {74777, 31530, 10, 6}, {110579, 31530, 7, 6}, {19460, 31536, 11, 7}, {19472, 31543, 20, 8},
+    {19493, 31551, 20, 8}, {19514, 31559, 20, 8}, {19535, 31567, 20, 8}, {19556, 31575, 11, 8}, {19568, 31583, 10, 8},
+    {19579, 31591, 21, 8}, {19601, 31599, 21, 8}, {19623, 31607, 10, 8}, {19634, 31615, 24, 8}, {19659, 31623, 24, 8},
+    {19684, 31631, 21, 8}, {19706, 31639, 25, 8}, {19732, 31647, 11, 8}, {19744, 31655, 11, 8}, {19756, 31663, 14, 8},
+    {42578, 31671, 17, 8}, {42596, 31679, 17, 8}, {42614, 31687, 17, 8}, {74788, 31695, 13, 7}, {110592, 31695, 5, 7},
+    {17461, 31702, 19, 8}, {17481, 31702, 28, 8}, {74802, 31702, 27, 8}, {80177, 31702, 14, 8}, {108335, 31702, 28, 8},
+    {111157, 31702, 25, 8}, {19771, 31710, 13, 8}, {19785, 31710, 14, 8}, {55679, 31710, 19, 8}, {74856, 31710, 19, 8},
+    {19800, 31718, 12, 8}, {55699, 31718, 18, 8}, {74876, 31718, 23, 8}, {19813, 31726, 14, 8}, {42496, 31726, 16, 8},
+    {42513, 31726, 21, 8}, {76347, 31726, 14, 8}, {19828, 31744, 12, 8}, {19841, 31752, 10, 8}, {19852, 31760, 16, 8},
+    {55808, 31760, 18, 8}, {112000, 31760, 18, 8}, {19869, 31768, 21, 8}, {55827, 31768, 22, 8}, {112019, 31768, 22, 8},
+    {19891, 31776, 21, 8}, {20891, 31784, 11, 8}, {20903, 31792, 17, 8}, {20921, 31792, 26, 8}, {74830, 31792, 25, 8},
+    {84817, 31792, 19, 8}, {108364, 31792, 26, 8}, {111859, 31792, 23, 8}, {55664, 31800, 14, 8}, {74900, 31800, 18, 8},
+    {55775, 31808, 14, 8}, {24961, 31816, 13, 8}, {24975, 31816, 29, 8}, {55850, 31816, 19, 8}, {110101, 31824, 27, 8},
+    {110010, 31832, 26, 8}, {109904, 31840, 26, 8}, {109931, 31840, 35, 8}, {31540, 31848, 10, 8},
+    {31551, 31848, 11, 8}, {54067, 31848, 11, 8}, {56748, 31848, 16, 8}, {74919, 31848, 22, 8}, {78654, 31848, 13, 8},
+    {78668, 31848, 43, 8}, {82326, 31848, 12, 8}, {108391, 31848, 11, 8}, {112536, 31848, 16, 8}, {57207, 31856, 13, 8},
+    {57099, 31864, 16, 8}, {112640, 31864, 16, 8}, {110291, 31872, 25, 8}, {36173, 31880, 18, 8}, {57143, 31880, 21, 8},
+    {36192, 31888, 23, 8}, {57165, 31888, 25, 8}, {110543, 31896, 15, 8}, {103772, 31904, 20, 8},
+    {103793, 31904, 14, 8}, {110598, 31912, 5, 7}, {17189, 31919, 20, 8}, {75580, 31919, 31, 8}, {78435, 31919, 3, 8},
+    {83804, 31919, 26, 8}, {106185, 31919, 32, 8}, {110616, 31919, 9, 8}, {17210, 31927, 28, 8}, {75612, 31927, 38, 8},
+    {78439, 31927, 11, 8}, {83831, 31927, 26, 8}, {106218, 31927, 11, 8}, {110626, 31927, 13, 8}, {19913, 31935, 10, 8},
+    {75070, 31943, 13, 7}, {110604, 31943, 5, 7}, {16223, 31950, 10, 8}, {16234, 31950, 29, 8}, {75084, 31950, 25, 8},
+    {78212, 31950, 21, 8}, {82269, 31950, 14, 8}, {83968, 31950, 41, 8}, {104122, 31950, 21, 8}, {106264, 31950, 11, 8},
+    {110995, 31950, 16, 8}, {16264, 31958, 10, 8}, {16275, 31958, 29, 8}, {75110, 31958, 25, 8}, {78234, 31958, 21, 8},
+    {82284, 31958, 14, 8}, {84010, 31958, 41, 8}, {104144, 31958, 21, 8}, {106276, 31958, 11, 8},
+    {111012, 31958, 16, 8}, {16305, 31966, 11, 8}, {16317, 31966, 12, 8}, {75136, 31966, 26, 8}, {84052, 31966, 24, 8},
+    {104166, 31966, 22, 8}, {106288, 31966, 12, 8}, {111029, 31966, 17, 8}, {16330, 31974, 15, 8},
+    {16346, 31974, 17, 8}, {75163, 31974, 30, 8}, {78256, 31974, 12, 8}, {82299, 31974, 16, 8}, {84077, 31974, 29, 8},
+    {104189, 31974, 26, 8}, {106301, 31974, 16, 8}, {111047, 31974, 21, 8}, {19924, 31982, 14, 8},
+    {19939, 31982, 16, 8}, {55413, 31982, 20, 8}, {75194, 31982, 30, 8}, {78269, 31982, 22, 8}, {104216, 31982, 25, 8},
+    {106318, 31982, 16, 8}, {111069, 31982, 20, 8}, {19968, 31990, 11, 8}, {19980, 31990, 12, 8}, {55434, 31990, 17, 8},
+    {75225, 31990, 26, 8}, {78292, 31990, 30, 8}, {104242, 31990, 22, 8}, {106335, 31990, 12, 8},
+    {111104, 31990, 17, 8}, {19993, 31998, 9, 8}, {20003, 31998, 10, 8}, {55452, 31998, 15, 8}, {75264, 31998, 24, 8},
+    {78336, 31998, 16, 8}, {104265, 31998, 20, 8}, {106348, 31998, 10, 8}, {111122, 31998, 15, 8},
+    {16364, 32006, 12, 8}, {16384, 32006, 13, 8}, {75289, 32006, 31, 8}, {84107, 32006, 24, 8}, {104286, 32006, 23, 8},
+    {106359, 32006, 13, 8}, {111138, 32006, 18, 8}, {17536, 32014, 11, 8}, {17548, 32014, 12, 8},
+    {104310, 32014, 22, 8}, {106373, 32014, 12, 8}, {111564, 32014, 17, 8}, {20014, 32022, 4, 8}, {20019, 32022, 4, 8},
+    {55758, 32030, 16, 8}, {106386, 32030, 12, 8}, {55741, 32038, 16, 8}, {106399, 32038, 12, 8},
+    {106412, 32046, 11, 8}, {106424, 32054, 11, 8}, {31563, 32062, 8, 8}, {31572, 32062, 27, 8}, {82316, 32062, 9, 8},
+    {85313, 32062, 21, 8}, {106436, 32062, 9, 8}, {31600, 32070, 8, 8}, {31609, 32070, 25, 8}, {106446, 32070, 9, 8},
+    {31635, 32078, 9, 8}, {31645, 32078, 30, 8}, {106456, 32078, 10, 8}, {56320, 32086, 15, 8}, {106467, 32086, 10, 8},
+    {31676, 32094, 17, 8}, {31694, 32094, 10, 8}, {56389, 32094, 23, 8}, {106496, 32094, 19, 8}, {112477, 32094, 23, 8},
+    {31705, 32102, 17, 8}, {31723, 32102, 10, 8}, {56413, 32102, 23, 8}, {106516, 32102, 19, 8}, {112501, 32102, 23, 8},
+    {31744, 32110, 10, 8}, {31755, 32110, 11, 8}, {106536, 32110, 11, 8}, {31767, 32118, 17, 8}, {31785, 32118, 19, 8},
+    {106548, 32118, 19, 8}, {31805, 32126, 9, 8}, {31815, 32126, 10, 8}, {106568, 32126, 10, 8}, {31826, 32134, 16, 8},
+    {31843, 32134, 18, 8}, {106579, 32134, 18, 8}, {33532, 32142, 5, 8}, {33538, 32142, 25, 8}, {56463, 32142, 11, 8},
+    {106598, 32142, 6, 8}, {33564, 32150, 5, 8}, {33570, 32150, 26, 8}, {56475, 32150, 11, 8}, {56487, 32150, 16, 8},
+    {106605, 32150, 6, 8}, {35510, 32158, 10, 8}, {35521, 32158, 18, 8}, {106612, 32158, 11, 8}, {35540, 32166, 19, 8},
+    {35560, 32166, 13, 8}, {106624, 32166, 14, 8}, {35574, 32174, 44, 8}, {35619, 32174, 42, 8}, {35662, 32182, 5, 8},
+    {35668, 32182, 47, 8}, {20024, 32190, 25, 8}, {20050, 32198, 26, 8}, {35716, 32206, 13, 8}, {35730, 32214, 21, 8},
+    {35752, 32222, 21, 8}, {42632, 32230, 16, 8}, {42649, 32238, 17, 8}, {42667, 32256, 19, 8}, {42687, 32264, 10, 8},
+    {42698, 32272, 26, 9}, {42725, 32281, 16, 9}, {42742, 32290, 20, 9}, {20077, 32299, 12, 8}, {20090, 32307, 23, 8},
+    {56552, 32307, 19, 8}, {56572, 32307, 30, 8}, {20114, 32315, 13, 8}, {57235, 32323, 22, 8}, {57258, 32331, 22, 8},
+    {57281, 32339, 22, 8}, {57304, 32347, 22, 8}, {110155, 32355, 24, 8}, {110200, 32363, 24, 8},
+    {110180, 32371, 19, 8}, {20128, 32379, 18, 8}, {29105, 32387, 25, 8}, {29131, 32387, 20, 8}, {44998, 32395, 20, 8},
+    {35441, 32403, 14, 8}, {35456, 32403, 8, 8}, {55914, 32411, 9, 8}, {35465, 32419, 12, 8}, {35478, 32419, 7, 8},
+    {35486, 32427, 14, 8}, {35501, 32427, 8, 8}, {35401, 32435, 21, 8}, {35423, 32435, 17, 8}, {20147, 32443, 18, 8},
+    {107896, 32443, 17, 8}, {20166, 32451, 19, 8}, {82597, 32451, 12, 8}, {107914, 32451, 18, 8}, {20186, 32459, 13, 8},
+    {82610, 32459, 6, 8}, {107933, 32459, 10, 8}, {20200, 32467, 27, 8}, {82617, 32467, 20, 8}, {107944, 32467, 26, 8},
+    {20228, 32475, 25, 8}, {82638, 32475, 18, 8}, {107971, 32475, 24, 8}, {109329, 32483, 19, 8},
+    {109349, 32491, 15, 8}, {109365, 32499, 17, 8}, {20254, 32507, 11, 8}, {109847, 32515, 15, 8},
+    {20266, 32523, 22, 8}, {55718, 32531, 22, 8}, {20289, 32539, 10, 8}, {36216, 32547, 15, 8}, {36232, 32555, 17, 8},
+    {56336, 32563, 19, 8}, {109412, 32563, 13, 8}, {56356, 32571, 10, 8}, {109426, 32571, 4, 8}, {109813, 32579, 15, 8},
+    {109794, 32587, 18, 8}, {109829, 32595, 17, 8}, {25005, 32603, 18, 8}, {25024, 32603, 12, 8}, {25037, 32611, 17, 8},
+    {25055, 32611, 11, 8}, {25112, 32619, 18, 8}, {25131, 32619, 11, 8}, {75680, 32627, 20, 7}, {110610, 32627, 5, 7},
+    {17510, 32634, 4, 8}, {75701, 32634, 15, 8}, {79872, 32634, 41, 8}, {83858, 32634, 39, 8}, {110640, 32634, 10, 8},
+    {111582, 32634, 12, 8}, {20349, 32642, 17, 9}, {20367, 32642, 19, 9}, {75801, 32642, 37, 9}, {80192, 32642, 17, 9},
+    {83898, 32642, 19, 9}, {108750, 32642, 19, 9}, {111616, 32642, 18, 9}, {20387, 32651, 5, 9}, {20393, 32651, 10, 9},
+    {75321, 32651, 21, 9}, {80037, 32651, 9, 9}, {80210, 32651, 12, 9}, {83918, 32651, 20, 9}, {111635, 32651, 18, 9},
+    {20404, 32660, 5, 9}, {20410, 32660, 11, 9}, {108822, 32660, 3, 9}, {20422, 32669, 19, 9}, {20442, 32669, 25, 9},
+    {108770, 32669, 20, 9}, {20468, 32678, 7, 9}, {20480, 32678, 13, 9}, {75343, 32678, 23, 9}, {80007, 32678, 11, 9},
+    {83939, 32678, 23, 9}, {108403, 32678, 13, 9}, {111654, 32678, 20, 9}, {20494, 32687, 13, 9}, {20508, 32687, 19, 9},
+    {108826, 32687, 14, 9}, {20528, 32696, 14, 9}, {20543, 32696, 20, 9}, {108734, 32696, 15, 9}, {20564, 32705, 14, 9},
+    {20579, 32705, 20, 9}, {108791, 32705, 30, 9}, {20600, 32714, 5, 9}, {108841, 32714, 15, 9}, {20606, 32723, 4, 9},
+    {20611, 32732, 9, 9}, {20621, 32732, 10, 9}, {17515, 32741, 9, 8}, {17525, 32741, 10, 8}, {75717, 32741, 21, 8},
+    {84480, 32741, 29, 8}, {107781, 32741, 10, 8}, {110651, 32741, 15, 8}, {20300, 32749, 15, 8}, {20316, 32749, 16, 8},
+    {75739, 32749, 24, 8}, {111780, 32749, 18, 8}, {20333, 32757, 7, 8}, {20341, 32757, 7, 8}, {26846, 32768, 12, 8},
+    {26859, 32768, 13, 8}, {75776, 32768, 24, 8}, {107792, 32768, 13, 8}, {111799, 32768, 18, 8}, {55881, 32776, 16, 8},
+    {55898, 32784, 15, 8}, {36250, 32792, 12, 8}, {36263, 32792, 13, 8}, {56514, 32792, 18, 8}, {36277, 32800, 12, 8},
+    {36290, 32800, 13, 8}, {56533, 32800, 18, 8}, {56504, 32808, 9, 8}, {36304, 32816, 10, 8}, {36315, 32816, 11, 8},
+    {57116, 32824, 16, 8}, {26784, 32832, 8, 8}, {26793, 32832, 8, 8}, {85335, 32840, 13, 8}, {75367, 32848, 31, 8},
+    {78353, 32848, 28, 8}, {79560, 32848, 27, 8}, {85349, 32848, 22, 8}, {106639, 32848, 16, 8}, {54751, 32856, 6, 6},
+    {54460, 32862, 18, 6}, {54479, 32868, 20, 6}, {2305, 32874, 6, 4}, {20771, 32874, 6, 4}, {20778, 32874, 6, 4},
+    {2312, 32878, 11, 5}, {2324, 32883, 10, 5}, {2335, 32888, 11, 5}, {3030, 32893, 7, 6}, {3038, 32899, 14, 7},
+    {3053, 32906, 8, 8}, {3072, 32914, 11, 9}, {3084, 32923, 18, 9}, {3103, 32932, 9, 8}, {3113, 32940, 9, 9},
+    {3123, 32949, 9, 9}, {4778, 32958, 8, 9}, {4787, 32967, 6, 9}, {3133, 32976, 21, 9}, {3155, 32985, 7, 8},
+    {3163, 32993, 15, 9}, {3179, 33002, 18, 7}, {3198, 33009, 18, 8}, {3217, 33017, 19, 9}, {3237, 33026, 23, 9},
+    {3261, 33035, 13, 8}, {3275, 33043, 12, 9}, {3288, 33052, 11, 9}, {3300, 33061, 27, 9}, {3328, 33070, 9, 9},
+    {3338, 33079, 18, 9}, {3357, 33088, 17, 9}, {3375, 33097, 30, 9}, {3406, 33106, 21, 9}, {72434, 33115, 16, 6},
+    {72451, 33121, 18, 7}, {72470, 33128, 17, 8}, {72610, 33136, 17, 9}, {72628, 33145, 22, 9}, {72651, 33154, 22, 9},
+    {72488, 33163, 17, 8}, {72674, 33171, 17, 9}, {72704, 33180, 18, 9}, {72506, 33189, 23, 7}, {72530, 33196, 10, 8},
+    {72541, 33204, 12, 9}, {72554, 33213, 15, 9}, {72570, 33222, 14, 9}, {72585, 33231, 24, 9}, {72723, 33240, 10, 6},
+    {72734, 33246, 13, 7}, {72748, 33253, 8, 8}, {72757, 33261, 28, 9}, {72786, 33280, 24, 9}, {72811, 33289, 24, 9},
+    {72836, 33298, 24, 9}, {72861, 33307, 20, 9}, {72882, 33316, 24, 9}, {72907, 33325, 7, 8}, {72915, 33333, 15, 9},
+    {72931, 33342, 12, 9}, {72944, 33351, 12, 10}, {72957, 33361, 15, 11}, {72973, 33372, 11, 11},
+    {72985, 33383, 19, 11}, {73005, 33394, 16, 11}, {73022, 33405, 19, 11}, {73042, 33416, 20, 11},
+    {73063, 33427, 23, 11}, {73087, 33438, 19, 11}, {73107, 33449, 20, 11}, {73128, 33460, 23, 11},
+    {73152, 33471, 13, 11}, {73166, 33482, 18, 11}, {73185, 33493, 13, 11}, {73199, 33504, 11, 6},
+    {73216, 33510, 14, 7}, {73231, 33517, 16, 8}, {73248, 33525, 16, 9}, {73265, 33534, 15, 10}, {73281, 33544, 17, 10},
+    {73299, 33554, 24, 8}, {73324, 33562, 24, 9}, {73349, 33571, 17, 10}, {73367, 33581, 16, 10},
+    {73384, 33591, 13, 10}, {73398, 33601, 30, 10}, {73429, 33611, 25, 10}, {73455, 33621, 15, 8},
+    {73471, 33629, 15, 9}, {73487, 33638, 23, 10}, {73511, 33648, 23, 10}, {73535, 33658, 23, 10},
+    {73559, 33668, 22, 10}, {73582, 33678, 22, 10}, {73605, 33688, 23, 10}, {73629, 33698, 24, 10},
+    {73654, 33708, 21, 10}, {73676, 33718, 16, 10}, {73693, 33728, 12, 8}, {73706, 33736, 16, 9}, {73728, 33745, 23, 9},
+    {73752, 33754, 23, 10}, {73776, 33764, 26, 11}, {73803, 33775, 25, 11}, {73829, 33792, 22, 11},
+    {73852, 33803, 22, 11}, {73875, 33814, 29, 11}, {73905, 33825, 24, 11}, {20785, 33836, 4, 4}, {21935, 33840, 8, 5},
+    {21944, 33840, 8, 5}, {21953, 33845, 17, 6}, {21987, 33851, 22, 7}, {22016, 33858, 24, 7}, {21971, 33865, 15, 6},
+    {110267, 33871, 3, 2}, {20632, 33873, 9, 4}, {15960, 33877, 10, 5}, {15971, 33877, 10, 5}, {14588, 33882, 7, 5},
+    {14596, 33882, 7, 5}, {14620, 33887, 7, 5}, {14628, 33887, 7, 5}, {56988, 33887, 6, 5}, {82139, 33887, 7, 5},
+    {82147, 33887, 3, 5}, {14707, 33892, 7, 5}, {14715, 33892, 7, 5}, {14604, 33897, 7, 5}, {14612, 33897, 7, 5},
+    {104735, 33902, 7, 5}, {20642, 33907, 12, 5}, {15026, 33912, 7, 5}, {15034, 33912, 17, 5}, {15007, 33917, 7, 5},
+    {15015, 33917, 10, 5}, {14678, 33922, 7, 5}, {14686, 33922, 20, 5}, {14636, 33927, 7, 5}, {14644, 33927, 7, 5},
+    {53000, 33927, 11, 5}, {82151, 33927, 6, 5}, {14670, 33932, 3, 5}, {14674, 33932, 3, 5}, {90, 33937, 5, 5},
+    {14988, 33937, 4, 5}, {14993, 33937, 4, 5}, {52612, 33937, 9, 5}, {85421, 33937, 5, 5}, {111556, 33937, 7, 5},
+    {15097, 33942, 12, 5}, {15110, 33942, 15, 5}, {16045, 33947, 10, 5}, {16056, 33947, 11, 5}, {110531, 33952, 11, 8},
+    {16086, 33960, 9, 5}, {16096, 33960, 9, 5}, {52622, 33960, 6, 5}, {52629, 33960, 10, 5}, {52640, 33960, 6, 5},
+    {16106, 33965, 13, 6}, {16120, 33965, 16, 6}, {82389, 33965, 10, 6}, {32576, 33971, 16, 5}, {32593, 33971, 47, 5},
+    {79996, 33971, 10, 5}, {16734, 33976, 7, 5}, {16742, 33976, 18, 5}, {31939, 33981, 6, 3}, {82541, 33981, 13, 3},
+    {112657, 33981, 9, 3}, {31946, 33984, 4, 3}, {82571, 33984, 11, 3}, {112667, 33984, 7, 3}, {438, 33987, 7, 3},
+    {32497, 33987, 7, 3}, {82462, 33987, 13, 3}, {82555, 33987, 15, 3}, {103984, 33987, 11, 3}, {112675, 33987, 10, 3},
+    {446, 33990, 5, 3}, {32505, 33990, 5, 3}, {82520, 33990, 11, 3}, {82583, 33990, 13, 3}, {112686, 33990, 8, 3},
+    {34654, 33993, 4, 2}, {34659, 33995, 10, 5}, {34670, 33995, 38, 5}, {29415, 34000, 11, 8}, {29427, 34000, 11, 8},
+    {29439, 34008, 11, 8}, {29451, 34008, 11, 8}, {25267, 34016, 12, 3}, {30, 34019, 5, 5}, {81991, 34019, 10, 5},
+    {104528, 34019, 8, 5}, {25710, 34024, 9, 5}, {25740, 34029, 9, 5}, {25670, 34034, 9, 5}, {25680, 34039, 9, 5},
+    {25564, 34044, 9, 5}, {25574, 34049, 9, 5}, {25620, 34054, 9, 5}, {25610, 34059, 9, 5}, {25660, 34064, 9, 5},
+    {60, 34069, 5, 5}, {82002, 34069, 10, 5}, {42, 34074, 5, 5}, {82013, 34074, 10, 5}, {104573, 34074, 8, 5},
+    {72, 34079, 5, 5}, {82024, 34079, 10, 5}, {25690, 34084, 9, 5}, {25700, 34089, 9, 5}, {25720, 34094, 9, 5},
+    {25730, 34099, 9, 5}, {36, 34104, 5, 5}, {82035, 34104, 10, 5}, {104555, 34104, 8, 5}, {66, 34109, 5, 5},
+    {82046, 34109, 10, 5}, {104564, 34109, 8, 5}, {25584, 34114, 9, 5}, {25600, 34119, 9, 5}, {25630, 34124, 9, 5},
+    {25640, 34129, 9, 5}, {25650, 34134, 9, 5}, {6, 34139, 5, 5}, {82057, 34139, 10, 5}, {85377, 34139, 4, 5},
+    {104546, 34139, 8, 5}, {104657, 34139, 8, 5}, {18, 34144, 5, 5}, {54088, 34144, 8, 5}, {82068, 34144, 10, 5},
+    {85387, 34144, 4, 5}, {104675, 34144, 8, 5}, {24, 34149, 5, 5}, {54097, 34149, 8, 5}, {82079, 34149, 10, 5},
+    {85392, 34149, 4, 5}, {104684, 34149, 8, 5}, {48, 34154, 5, 5}, {82090, 34154, 10, 5}, {104582, 34154, 8, 5},
+    {78, 34159, 5, 5}, {82101, 34159, 10, 5}, {104591, 34159, 8, 5}, {54, 34164, 5, 5}, {82112, 34164, 10, 5},
+    {104600, 34164, 8, 5}, {84, 34169, 5, 5}, {82123, 34169, 10, 5}, {54176, 34174, 7, 5}, {82134, 34174, 4, 5},
+    {112286, 34174, 7, 5}, {112805, 34179, 17, 1}, {112823, 34180, 17, 1}, {112841, 34181, 17, 1},
+    {112859, 34182, 17, 1}, {14402, 34183, 4, 1}, {14407, 34183, 26, 1}, {112877, 34183, 17, 1}, {20802, 34184, 24, 3},
+    {20827, 34184, 24, 3}, {20852, 34187, 9, 4}, {14434, 34191, 4, 2}, {110667, 34191, 5, 2}, {59168, 34193, 16, 3},
+    {55215, 34196, 16, 3}, {78712, 34196, 11, 3}, {83228, 34196, 16, 3}, {105678, 34196, 11, 3}, {110755, 34196, 16, 3},
+    {55553, 34199, 13, 3}, {110684, 34199, 13, 3}, {55484, 34202, 18, 3}, {78724, 34202, 13, 3}, {84399, 34202, 18, 3},
+    {105690, 34202, 13, 3}, {111716, 34202, 18, 3}, {55378, 34205, 17, 3}, {83245, 34205, 17, 3},
+    {105704, 34205, 12, 3}, {110899, 34205, 17, 3}, {55232, 34208, 18, 3}, {83263, 34208, 18, 3},
+    {105717, 34208, 13, 3}, {110772, 34208, 18, 3}, {55251, 34211, 25, 3}, {78453, 34211, 1, 3}, {78738, 34211, 16, 3},
+    {79914, 34211, 14, 3}, {80047, 34211, 9, 3}, {83282, 34211, 27, 3}, {105731, 34211, 22, 3}, {110791, 34211, 25, 3},
+    {84418, 34214, 19, 3}, {105754, 34214, 14, 3}, {55296, 34217, 22, 3}, {80057, 34217, 7, 3}, {83310, 34217, 22, 3},
+    {105769, 34217, 17, 3}, {110817, 34217, 22, 3}, {55319, 34220, 28, 3}, {78755, 34220, 19, 3}, {80065, 34220, 11, 3},
+    {83333, 34220, 29, 3}, {105787, 34220, 24, 3}, {110840, 34220, 28, 3}, {55348, 34223, 11, 3}, {78459, 34223, 1, 3},
+    {110869, 34223, 11, 3}, {78775, 34226, 17, 3}, {105812, 34226, 17, 3}, {78793, 34229, 14, 3}, {78808, 34232, 11, 3},
+    {105830, 34232, 11, 3}, {78820, 34235, 5, 3}, {78826, 34235, 6, 3}, {57397, 34238, 28, 4}, {78848, 34242, 12, 3},
+    {105842, 34242, 16, 3}, {57501, 34245, 3, 3}, {78861, 34245, 10, 3}, {78872, 34248, 8, 3}, {78881, 34251, 13, 3},
+    {56857, 34254, 21, 3}, {78895, 34254, 16, 3}, {112553, 34254, 21, 3}, {78912, 34257, 14, 3}, {78927, 34260, 27, 3},
+    {55147, 34263, 10, 3}, {110673, 34263, 10, 3}, {55158, 34266, 15, 3}, {78455, 34266, 1, 3}, {78955, 34266, 10, 3},
+    {84438, 34266, 15, 3}, {105859, 34266, 10, 3}, {110698, 34266, 15, 3}, {55174, 34269, 14, 3}, {78457, 34269, 1, 3},
+    {110714, 34269, 14, 3}, {55189, 34272, 25, 3}, {78966, 34272, 20, 3}, {105870, 34272, 20, 3},
+    {110729, 34272, 25, 3}, {78987, 34275, 17, 3}, {105891, 34275, 17, 3}, {55360, 34278, 17, 3}, {79005, 34278, 12, 3},
+    {83363, 34278, 17, 3}, {105909, 34278, 12, 3}, {110881, 34278, 17, 3}, {79018, 34281, 18, 3}, {79037, 34284, 16, 3},
+    {107806, 34287, 20, 3}, {109888, 34290, 15, 3}, {112461, 34290, 15, 3}, {58638, 34293, 29, 3},
+    {58713, 34296, 34, 3}, {58668, 34304, 13, 3}, {58682, 34307, 30, 3}, {58748, 34310, 32, 3}, {55468, 34313, 15, 3},
+    {111700, 34313, 15, 3}, {56879, 34316, 13, 3}, {58796, 34319, 10, 3}, {20948, 34322, 4, 3}, {58781, 34325, 14, 3},
+    {58807, 34328, 14, 3}, {58621, 34331, 16, 3}, {58822, 34334, 13, 3}, {32511, 34337, 22, 3}, {105922, 34337, 23, 3},
+    {32534, 34340, 2, 3}, {32537, 34340, 13, 3}, {32551, 34343, 2, 3}, {32554, 34343, 13, 3}, {32568, 34346, 7, 3},
+    {58836, 34349, 7, 3}, {58844, 34352, 5, 3}, {58850, 34355, 6, 3}, {58880, 34358, 24, 3}, {58923, 34361, 15, 3},
+    {58905, 34364, 17, 3}, {58939, 34367, 24, 3}, {20655, 34370, 14, 2}, {20670, 34370, 31, 2}, {14439, 34372, 3, 4},
+    {14443, 34372, 3, 4}, {15882, 34376, 8, 4}, {15891, 34376, 11, 4}, {15872, 34380, 4, 4}, {15877, 34380, 4, 4},
+    {58964, 34384, 26, 3}, {58991, 34387, 30, 3}, {59022, 34390, 25, 3}, {59113, 34393, 15, 3}, {111415, 34396, 5, 2},
+    {74073, 34398, 30, 3}, {74104, 34401, 20, 3}, {74125, 34404, 27, 3}, {74153, 34407, 22, 3}, {74176, 34410, 21, 3},
+    {26520, 34413, 26, 3}, {26547, 34413, 35, 3}, {75046, 34413, 23, 3}, {76252, 34413, 28, 3}, {83381, 34413, 40, 3},
+    {108032, 34413, 28, 3}, {74198, 34416, 23, 3}, {15457, 34419, 20, 3}, {15478, 34419, 29, 3}, {74410, 34419, 28, 3},
+    {75872, 34419, 22, 3}, {79054, 34419, 14, 3}, {80077, 34419, 12, 3}, {83422, 34419, 26, 3}, {108061, 34419, 14, 3},
+    {111450, 34419, 26, 3}, {15508, 34422, 8, 3}, {15517, 34422, 16, 3}, {74240, 34422, 15, 3}, {75895, 34422, 9, 3},
+    {79069, 34422, 10, 3}, {83456, 34422, 21, 3}, {108076, 34422, 9, 3}, {111400, 34422, 14, 3}, {15534, 34425, 21, 3},
+    {15556, 34425, 31, 3}, {74256, 34425, 29, 3}, {75905, 34425, 24, 3}, {80090, 34425, 15, 3}, {83478, 34425, 36, 3},
+    {108086, 34425, 24, 3}, {15588, 34428, 14, 3}, {15603, 34428, 31, 3}, {74439, 34428, 23, 3}, {75930, 34428, 24, 3},
+    {79080, 34428, 17, 3}, {79098, 34428, 25, 3}, {80106, 34428, 22, 3}, {83515, 34428, 28, 3}, {108111, 34428, 16, 3},
+    {111501, 34428, 20, 3}, {15635, 34431, 13, 3}, {15649, 34431, 30, 3}, {74463, 34431, 22, 3}, {75955, 34431, 23, 3},
+    {80129, 34431, 21, 3}, {83544, 34431, 27, 3}, {108128, 34431, 15, 3}, {111522, 34431, 19, 3}, {15680, 34434, 16, 3},
+    {15697, 34434, 24, 3}, {74286, 34434, 24, 3}, {75979, 34434, 17, 3}, {83572, 34434, 29, 3}, {108144, 34434, 17, 3},
+    {111225, 34434, 22, 3}, {15722, 34437, 9, 3}, {15732, 34437, 17, 3}, {74607, 34437, 16, 3}, {75997, 34437, 10, 3},
+    {108608, 34437, 10, 3}, {110979, 34437, 15, 3}, {16670, 34440, 9, 3}, {16680, 34440, 22, 3}, {74486, 34440, 21, 3},
+    {76117, 34440, 15, 3}, {80151, 34440, 10, 3}, {108666, 34440, 10, 3}, {110962, 34440, 16, 3}, {21564, 34443, 19, 3},
+    {21584, 34443, 21, 3}, {74508, 34443, 22, 3}, {84762, 34443, 25, 3}, {108677, 34443, 21, 3}, {16703, 34446, 14, 3},
+    {16718, 34446, 15, 3}, {108699, 34446, 15, 3}, {110941, 34446, 20, 3}, {16634, 34449, 8, 3}, {16643, 34449, 26, 3},
+    {74624, 34449, 25, 3}, {76097, 34449, 19, 3}, {80019, 34449, 17, 3}, {108619, 34449, 19, 3}, {111248, 34449, 23, 3},
+    {26583, 34452, 24, 3}, {26624, 34452, 33, 3}, {74650, 34452, 24, 3}, {76288, 34452, 26, 3}, {108639, 34452, 26, 3},
+    {111300, 34452, 30, 3}, {26658, 34455, 17, 3}, {26676, 34455, 25, 3}, {76315, 34455, 18, 3}, {84788, 34455, 28, 3},
+    {108715, 34455, 18, 3}, {111477, 34455, 23, 3}, {25067, 34458, 15, 3}, {25088, 34458, 23, 3}, {74694, 34458, 22, 3},
+    {76189, 34458, 16, 3}, {83602, 34458, 28, 3}, {108162, 34458, 16, 3}, {111331, 34458, 21, 3}, {15907, 34461, 21, 3},
+    {15929, 34461, 30, 3}, {74531, 34461, 21, 3}, {76054, 34461, 23, 3}, {79124, 34461, 13, 3}, {79138, 34461, 37, 3},
+    {108179, 34461, 23, 3}, {111272, 34461, 27, 3}, {15750, 34464, 19, 3}, {15770, 34464, 27, 3}, {74311, 34464, 19, 3},
+    {76008, 34464, 20, 3}, {108203, 34464, 20, 3}, {111353, 34464, 25, 3}, {26006, 34467, 17, 4}, {74331, 34467, 21, 4},
+    {76206, 34467, 10, 4}, {78401, 34467, 21, 4}, {85031, 34467, 30, 4}, {106230, 34467, 10, 4}, {26024, 34471, 14, 3},
+    {26039, 34471, 22, 3}, {74717, 34471, 21, 3}, {76217, 34471, 15, 3}, {83631, 34471, 27, 3}, {108224, 34471, 15, 3},
+    {111379, 34471, 20, 3}, {15798, 34474, 22, 3}, {15821, 34474, 31, 3}, {74378, 34474, 31, 3}, {76029, 34474, 24, 3},
+    {79176, 34474, 16, 3}, {80162, 34474, 14, 3}, {83690, 34474, 36, 3}, {108240, 34474, 24, 3}, {111421, 34474, 28, 3},
+    {20953, 34477, 17, 3}, {20992, 34477, 25, 3}, {74752, 34477, 24, 3}, {76133, 34477, 18, 3}, {83659, 34477, 30, 3},
+    {108265, 34477, 18, 3}, {111201, 34477, 23, 3}, {16175, 34480, 16, 3}, {16192, 34480, 25, 3}, {74553, 34480, 24, 3},
+    {76078, 34480, 18, 3}, {78382, 34480, 18, 3}, {79193, 34480, 19, 3}, {82339, 34480, 11, 3}, {108284, 34480, 18, 3},
+    {111183, 34480, 17, 3}, {29361, 34483, 22, 4}, {74578, 34483, 28, 4}, {78423, 34483, 11, 4}, {104107, 34483, 14, 4},
+    {106241, 34483, 22, 4}, {43608, 34487, 28, 3}, {43637, 34487, 37, 3}, {76362, 34487, 30, 3}, {43675, 34490, 22, 3},
+    {43698, 34490, 48, 3}, {76393, 34490, 41, 3}, {43747, 34493, 19, 3}, {43767, 34493, 46, 3}, {76435, 34493, 39, 3},
+    {43814, 34496, 24, 3}, {43839, 34496, 33, 3}, {76475, 34496, 26, 3}, {43873, 34499, 17, 3}, {43891, 34499, 25, 3},
+    {76502, 34499, 18, 3}, {29073, 34502, 11, 3}, {29085, 34502, 19, 3}, {74675, 34502, 18, 3}, {76334, 34502, 12, 3},
+    {108303, 34502, 12, 3}, {111818, 34502, 17, 3}, {43917, 34505, 19, 3}, {43937, 34505, 27, 3}, {76521, 34505, 20, 3},
+    {43965, 34508, 10, 3}, {43976, 34508, 18, 3}, {43995, 34511, 13, 3}, {44032, 34511, 37, 3}, {76542, 34511, 30, 3},
+    {44070, 34514, 22, 3}, {44093, 34514, 40, 3}, {76573, 34514, 33, 3}, {26062, 34517, 16, 3}, {26079, 34517, 25, 3},
+    {74353, 34517, 24, 3}, {76233, 34517, 18, 3}, {108316, 34517, 18, 3}, {111836, 34517, 22, 3}, {21018, 34520, 17, 3},
+    {21036, 34520, 19, 3}, {76152, 34520, 12, 3}, {21056, 34523, 10, 3}, {21067, 34523, 30, 3}, {76165, 34523, 23, 3},
+    {44134, 34526, 22, 3}, {44157, 34526, 36, 3}, {76607, 34526, 29, 3}, {44194, 34529, 14, 3}, {44209, 34529, 22, 3},
+    {76637, 34529, 15, 3}, {44232, 34532, 11, 3}, {44244, 34532, 19, 3}, {76653, 34532, 12, 3}, {44264, 34535, 26, 3},
+    {44291, 34535, 53, 3}, {76666, 34535, 46, 3}, {44345, 34538, 16, 3}, {44362, 34538, 26, 3}, {76713, 34538, 19, 3},
+    {44389, 34541, 9, 3}, {44399, 34541, 17, 3}, {76733, 34541, 10, 3}, {44417, 34544, 7, 3}, {44425, 34544, 34, 3},
+    {76744, 34544, 27, 3}, {44460, 34547, 27, 3}, {44488, 34547, 36, 3}, {76800, 34547, 29, 3}, {44544, 34550, 17, 3},
+    {44562, 34550, 25, 3}, {76830, 34550, 18, 3}, {44588, 34553, 21, 3}, {44610, 34553, 30, 3}, {76849, 34553, 23, 3},
+    {44641, 34556, 23, 3}, {44665, 34556, 31, 3}, {76873, 34556, 24, 3}, {44697, 34559, 12, 3}, {44710, 34559, 27, 3},
+    {76898, 34559, 20, 3}, {44738, 34562, 23, 3}, {44762, 34562, 42, 3}, {76919, 34562, 35, 3}, {44805, 34565, 21, 3},
+    {44827, 34565, 38, 3}, {76955, 34565, 31, 3}, {44866, 34568, 17, 3}, {44884, 34568, 34, 3}, {76987, 34568, 27, 3},
+    {44919, 34571, 21, 3}, {44941, 34571, 29, 3}, {77015, 34571, 22, 3}, {112895, 34574, 17, 1}, {112913, 34575, 17, 1},
+    {112931, 34576, 18, 1}, {110002, 34577, 7, 9}, {109982, 34586, 19, 9}, {109967, 34595, 14, 9},
+    {110047, 34604, 13, 7}, {21266, 34611, 11, 9}, {21278, 34611, 11, 9}, {80223, 34611, 21, 9}, {105084, 34611, 10, 9},
+    {21290, 34620, 11, 9}, {21302, 34620, 11, 9}, {52746, 34620, 6, 9}, {57007, 34620, 14, 9}, {80245, 34620, 21, 9},
+    {85397, 34620, 7, 9}, {105095, 34620, 10, 9}, {111913, 34620, 13, 9}, {21314, 34629, 11, 9}, {21326, 34629, 11, 9},
+    {80267, 34629, 21, 9}, {105106, 34629, 10, 9}, {21338, 34638, 11, 9}, {21350, 34638, 11, 9}, {80289, 34638, 21, 9},
+    {105117, 34638, 10, 9}, {53012, 34647, 12, 9}, {53025, 34647, 11, 9}, {54184, 34647, 6, 9}, {80311, 34647, 20, 9},
+    {80332, 34647, 11, 9}, {84283, 34647, 16, 9}, {105128, 34647, 11, 9}, {111955, 34647, 14, 9}, {29168, 34656, 11, 9},
+    {54205, 34656, 7, 9}, {80344, 34656, 21, 9}, {105140, 34656, 10, 9}, {112244, 34656, 13, 9}, {29184, 34665, 11, 9},
+    {105151, 34665, 10, 9}, {29196, 34674, 18, 9}, {52817, 34674, 16, 9}, {52834, 34674, 15, 9}, {80384, 34674, 21, 9},
+    {80406, 34674, 14, 9}, {105162, 34674, 15, 9}, {112404, 34674, 18, 9}, {21362, 34683, 11, 9}, {21374, 34683, 11, 9},
+    {80421, 34683, 21, 9}, {105178, 34683, 10, 9}, {21386, 34692, 11, 9}, {21398, 34692, 11, 9}, {52985, 34692, 6, 9},
+    {57022, 34692, 14, 9}, {80443, 34692, 21, 9}, {85405, 34692, 7, 9}, {105189, 34692, 10, 9}, {111927, 34692, 13, 9},
+    {21410, 34701, 11, 9}, {21422, 34701, 11, 9}, {80465, 34701, 21, 9}, {105200, 34701, 10, 9}, {21434, 34710, 11, 9},
+    {21446, 34710, 11, 9}, {80487, 34710, 21, 9}, {105211, 34710, 10, 9}, {52904, 34719, 12, 9}, {52917, 34719, 11, 9},
+    {54191, 34719, 6, 9}, {80509, 34719, 20, 9}, {80530, 34719, 11, 9}, {84300, 34719, 16, 9}, {105222, 34719, 11, 9},
+    {111970, 34719, 14, 9}, {29215, 34728, 11, 9}, {54213, 34728, 7, 9}, {80542, 34728, 21, 9}, {105234, 34728, 10, 9},
+    {112258, 34728, 13, 9}, {29227, 34737, 11, 9}, {105245, 34737, 10, 9}, {29239, 34746, 18, 9}, {52784, 34746, 16, 9},
+    {52801, 34746, 15, 9}, {80564, 34746, 21, 9}, {80586, 34746, 14, 9}, {105256, 34746, 15, 9}, {112423, 34746, 18, 9},
+    {21458, 34755, 11, 9}, {21470, 34755, 11, 9}, {80601, 34755, 21, 9}, {105272, 34755, 10, 9}, {21482, 34764, 11, 9},
+    {21504, 34764, 11, 9}, {52777, 34764, 6, 9}, {57037, 34764, 14, 9}, {80623, 34764, 21, 9}, {85413, 34764, 7, 9},
+    {105283, 34764, 10, 9}, {111941, 34764, 13, 9}, {21516, 34773, 11, 9}, {21528, 34773, 11, 9}, {80645, 34773, 21, 9},
+    {105294, 34773, 10, 9}, {21540, 34782, 11, 9}, {21552, 34782, 11, 9}, {80667, 34782, 21, 9}, {105305, 34782, 10, 9},
+    {52956, 34791, 12, 9}, {52969, 34791, 11, 9}, {54198, 34791, 6, 9}, {80689, 34791, 20, 9}, {80710, 34791, 11, 9},
+    {84317, 34791, 16, 9}, {105316, 34791, 11, 9}, {111985, 34791, 14, 9}, {29258, 34800, 11, 9}, {54221, 34800, 7, 9},
+    {80722, 34800, 21, 9}, {105328, 34800, 10, 9}, {112272, 34800, 13, 9}, {29270, 34816, 11, 9},
+    {105339, 34816, 10, 9}, {29282, 34825, 18, 9}, {52860, 34825, 16, 9}, {52877, 34825, 15, 9}, {80744, 34825, 21, 9},
+    {80766, 34825, 14, 9}, {105350, 34825, 15, 9}, {112442, 34825, 18, 9}, {104, 34834, 7, 9}, {25187, 34834, 6, 9},
+    {25194, 34834, 6, 9}, {52709, 34834, 8, 9}, {85435, 34834, 7, 9}, {111883, 34834, 9, 9}, {112, 34843, 7, 9},
+    {25201, 34843, 6, 9}, {25208, 34843, 6, 9}, {52679, 34843, 8, 9}, {85443, 34843, 7, 9}, {111893, 34843, 9, 9},
+    {120, 34852, 7, 9}, {25215, 34852, 6, 9}, {25222, 34852, 6, 9}, {52647, 34852, 8, 9}, {85451, 34852, 7, 9},
+    {111903, 34852, 9, 9}, {96, 34861, 7, 9}, {25229, 34861, 6, 9}, {25236, 34861, 6, 9}, {52603, 34861, 8, 9},
+    {85427, 34861, 7, 9}, {112193, 34861, 9, 9}, {128, 34870, 11, 9}, {32641, 34870, 10, 9}, {32652, 34870, 10, 9},
+    {52656, 34870, 12, 9}, {56893, 34870, 13, 9}, {80781, 34870, 10, 9}, {104743, 34870, 10, 9}, {112575, 34870, 13, 9},
+    {140, 34879, 11, 9}, {32663, 34879, 10, 9}, {32674, 34879, 10, 9}, {52590, 34879, 12, 9}, {56907, 34879, 13, 9},
+    {80792, 34879, 10, 9}, {104754, 34879, 10, 9}, {112589, 34879, 13, 9}, {32685, 34888, 8, 9}, {32694, 34888, 8, 9},
+    {79929, 34888, 8, 9}, {32703, 34897, 8, 9}, {32712, 34897, 8, 9}, {79938, 34897, 8, 9}, {32721, 34906, 8, 9},
+    {32730, 34906, 8, 9}, {79947, 34906, 8, 9}, {32739, 34915, 8, 9}, {32748, 34915, 8, 9}, {79956, 34915, 8, 9},
+    {32768, 34924, 8, 9}, {32777, 34924, 8, 9}, {52736, 34924, 9, 9}, {80803, 34924, 12, 9}, {85459, 34924, 9, 9},
+    {32786, 34933, 8, 9}, {32795, 34933, 8, 9}, {52669, 34933, 9, 9}, {80816, 34933, 12, 9}, {85469, 34933, 9, 9},
+    {32804, 34942, 13, 9}, {80829, 34942, 12, 9}, {32818, 34951, 13, 9}, {80842, 34951, 12, 9}, {32832, 34960, 13, 9},
+    {80855, 34960, 12, 9}, {32846, 34969, 13, 9}, {80868, 34969, 12, 9}, {80896, 34978, 12, 9}, {104765, 34978, 12, 9},
+    {57191, 34987, 15, 9}, {80909, 34987, 12, 9}, {104778, 34987, 12, 9}, {35297, 34996, 7, 9}, {35305, 34996, 7, 9},
+    {53054, 34996, 8, 9}, {35313, 35005, 7, 9}, {35328, 35005, 7, 9}, {53063, 35005, 8, 9}, {27040, 35014, 15, 9},
+    {53085, 35014, 12, 9}, {53098, 35014, 10, 9}, {56246, 35014, 18, 9}, {80922, 35014, 13, 9}, {85248, 35014, 26, 9},
+    {104880, 35014, 10, 9}, {112294, 35014, 18, 9}, {27056, 35023, 15, 9}, {53109, 35023, 12, 9}, {53122, 35023, 10, 9},
+    {56265, 35023, 18, 9}, {79737, 35023, 16, 9}, {80936, 35023, 13, 9}, {85275, 35023, 26, 9}, {103897, 35023, 13, 9},
+    {104891, 35023, 10, 9}, {112313, 35023, 18, 9}, {32860, 35032, 18, 9}, {32879, 35032, 15, 9}, {53133, 35032, 12, 9},
+    {53146, 35032, 10, 9}, {80950, 35032, 13, 9}, {32895, 35041, 18, 9}, {32914, 35041, 15, 9}, {53157, 35041, 12, 9},
+    {53170, 35041, 10, 9}, {80964, 35041, 13, 9}, {32930, 35050, 20, 9}, {32951, 35050, 17, 9}, {53181, 35050, 12, 9},
+    {80978, 35050, 15, 9}, {32969, 35059, 20, 9}, {32990, 35059, 17, 9}, {53194, 35059, 12, 9}, {80994, 35059, 15, 9},
+    {33008, 35068, 20, 9}, {33029, 35068, 17, 9}, {53207, 35068, 12, 9}, {81010, 35068, 15, 9}, {33047, 35077, 20, 9},
+    {33068, 35077, 17, 9}, {53220, 35077, 12, 9}, {81026, 35077, 15, 9}, {33086, 35086, 19, 9}, {53499, 35086, 14, 9},
+    {81042, 35086, 17, 9}, {104973, 35086, 14, 9}, {33106, 35095, 19, 9}, {53514, 35095, 14, 9}, {81060, 35095, 17, 9},
+    {104988, 35095, 14, 9}, {33126, 35104, 19, 9}, {53529, 35104, 14, 9}, {81078, 35104, 17, 9}, {105003, 35104, 14, 9},
+    {33146, 35113, 19, 9}, {53544, 35113, 14, 9}, {81096, 35113, 17, 9}, {105018, 35113, 14, 9}, {33166, 35122, 34, 9},
+    {33201, 35122, 12, 9}, {81114, 35122, 15, 9}, {33214, 35131, 34, 9}, {33249, 35131, 12, 9}, {81130, 35131, 15, 9},
+    {33280, 35140, 34, 9}, {33315, 35140, 12, 9}, {81146, 35140, 15, 9}, {33328, 35149, 34, 9}, {33363, 35149, 12, 9},
+    {81162, 35149, 15, 9}, {186, 35158, 9, 9}, {53559, 35158, 7, 9}, {196, 35167, 9, 9}, {53567, 35167, 7, 9},
+    {206, 35176, 9, 9}, {53575, 35176, 7, 9}, {216, 35185, 17, 9}, {234, 35194, 17, 9}, {252, 35203, 17, 9},
+    {270, 35212, 17, 9}, {288, 35221, 17, 9}, {306, 35230, 17, 9}, {324, 35239, 18, 9}, {343, 35248, 18, 9},
+    {362, 35257, 18, 9}, {381, 35266, 18, 9}, {400, 35275, 18, 9}, {419, 35284, 18, 9}, {51969, 35293, 26, 9},
+    {51996, 35302, 26, 9}, {52023, 35311, 26, 9}, {52050, 35328, 29, 9}, {52080, 35337, 29, 9}, {52110, 35346, 29, 9},
+    {52140, 35355, 29, 9}, {52170, 35364, 29, 9}, {52224, 35373, 29, 9}, {52254, 35382, 32, 9}, {52287, 35391, 32, 9},
+    {52320, 35400, 32, 9}, {52353, 35409, 32, 9}, {52386, 35418, 32, 9}, {52419, 35427, 32, 9}, {152, 35436, 10, 9},
+    {53586, 35436, 8, 9}, {163, 35445, 10, 9}, {53595, 35445, 8, 9}, {174, 35454, 11, 9}, {53604, 35454, 9, 9},
+    {107690, 35463, 19, 8}, {107666, 35471, 23, 8}, {107755, 35479, 25, 8}, {100097, 35487, 16, 13},
+    {100131, 35500, 16, 13}, {100148, 35513, 12, 13}, {100161, 35526, 22, 13}, {100184, 35539, 14, 13},
+    {100199, 35552, 16, 13}, {100216, 35565, 18, 13}, {100235, 35578, 18, 13}, {100254, 35591, 14, 13},
+    {100269, 35604, 13, 13}, {100283, 35617, 13, 13}, {100297, 35630, 13, 13}, {100311, 35643, 14, 13},
+    {100326, 35656, 22, 13}, {100352, 35669, 18, 13}, {100371, 35682, 13, 13}, {100385, 35695, 13, 13},
+    {100399, 35708, 13, 13}, {100413, 35721, 18, 13}, {100432, 35734, 15, 13}, {100448, 35747, 19, 13},
+    {100610, 35760, 21, 13}, {100632, 35773, 21, 13}, {100654, 35786, 15, 13}, {100670, 35799, 24, 13},
+    {100695, 35812, 11, 13}, {100707, 35840, 22, 13}, {100730, 35853, 24, 13}, {100755, 35866, 13, 13},
+    {100769, 35879, 16, 13}, {100805, 35892, 7, 13}, {100813, 35905, 19, 13}, {100833, 35918, 21, 13},
+    {100864, 35931, 17, 13}, {100882, 35944, 19, 13}, {100902, 35957, 12, 13}, {100915, 35970, 19, 13},
+    {100935, 35983, 20, 13}, {100999, 35996, 12, 13}, {101012, 36009, 17, 13}, {101030, 36022, 10, 13},
+    {101041, 36035, 13, 13}, {101055, 36048, 13, 13}, {101069, 36061, 15, 13}, {101085, 36074, 12, 13},
+    {101098, 36087, 14, 13}, {101113, 36100, 13, 13}, {101127, 36113, 12, 13}, {101140, 36126, 18, 13},
+    {101159, 36139, 15, 13}, {14878, 36152, 8, 7}, {14887, 36152, 29, 7}, {14917, 36159, 9, 8}, {14927, 36159, 30, 8},
+    {15126, 36167, 10, 9}, {15137, 36167, 18, 9}, {108443, 36167, 25, 9}, {15156, 36176, 9, 9}, {15166, 36176, 17, 9},
+    {15184, 36185, 15, 9}, {15200, 36185, 23, 9}, {15224, 36194, 17, 9}, {15242, 36194, 26, 9}, {15269, 36203, 12, 9},
+    {15282, 36203, 20, 9}, {15303, 36212, 13, 9}, {15317, 36212, 22, 9}, {15340, 36221, 15, 9}, {15360, 36221, 24, 9},
+    {15385, 36230, 9, 9}, {15395, 36230, 16, 9}, {14958, 36239, 10, 8}, {14969, 36239, 18, 8}, {15412, 36247, 14, 9},
+    {15427, 36247, 29, 9}, {57531, 36256, 12, 10}, {57544, 36266, 8, 10}, {57553, 36276, 10, 10}, {57564, 36286, 7, 10},
+    {57572, 36296, 6, 10}, {57579, 36306, 12, 10}, {57592, 36316, 11, 10}, {57918, 36326, 16, 10},
+    {57935, 36336, 8, 10}, {62040, 36352, 10, 10}, {62177, 36362, 14, 10}, {57944, 36372, 18, 10},
+    {57604, 36382, 10, 10}, {57656, 36392, 9, 11}, {57615, 36403, 10, 11}, {57641, 36414, 14, 10},
+    {57696, 36424, 11, 10}, {57963, 36434, 22, 11}, {59827, 36445, 24, 10}, {60588, 36455, 28, 10},
+    {60740, 36465, 31, 10}, {60772, 36475, 32, 10}, {60617, 36485, 40, 10}, {60658, 36495, 23, 10},
+    {60682, 36505, 24, 10}, {60107, 36515, 29, 10}, {60078, 36525, 28, 10}, {59852, 36535, 24, 10},
+    {100956, 36545, 19, 12}, {16599, 36557, 5, 9}, {16605, 36557, 28, 9}, {104023, 36557, 25, 9},
+    {104371, 36557, 36, 9}, {43262, 36566, 19, 7}, {43282, 36566, 19, 7}, {43302, 36573, 26, 12},
+    {43329, 36573, 26, 12}, {109625, 36573, 17, 12}, {112950, 36585, 18, 1}, {24826, 36586, 27, 1},
+    {24854, 36586, 27, 1}, {112969, 36586, 18, 1}, {22041, 36587, 6, 2}, {22048, 36587, 30, 2}, {22079, 36589, 9, 3},
+    {22089, 36589, 13, 3}, {22198, 36592, 13, 4}, {22212, 36596, 14, 4}, {22227, 36600, 13, 4}, {22241, 36604, 12, 4},
+    {22254, 36608, 8, 4}, {22263, 36612, 12, 4}, {22276, 36616, 20, 4}, {22297, 36620, 14, 4}, {22312, 36624, 20, 4},
+    {22333, 36628, 23, 4}, {22357, 36632, 23, 4}, {22381, 36636, 17, 4}, {22399, 36640, 18, 4}, {22418, 36644, 12, 4},
+    {22431, 36648, 14, 4}, {22446, 36652, 16, 4}, {22463, 36656, 16, 4}, {22480, 36660, 17, 4}, {22498, 36664, 18, 4},
+    {22528, 36668, 18, 4}, {22547, 36672, 17, 4}, {22565, 36676, 20, 4}, {22586, 36680, 19, 4}, {22606, 36684, 20, 4},
+    {22627, 36688, 19, 4}, {22647, 36692, 15, 4}, {22663, 36696, 16, 4}, {22680, 36700, 16, 4}, {22697, 36704, 18, 4},
+    {22716, 36708, 19, 4}, {22736, 36712, 19, 4}, {22756, 36716, 16, 4}, {22773, 36720, 17, 4}, {22791, 36724, 17, 4},
+    {22809, 36728, 19, 4}, {22829, 36732, 20, 4}, {22850, 36736, 20, 4}, {22871, 36740, 18, 4}, {22890, 36744, 17, 4},
+    {22908, 36748, 23, 4}, {22932, 36752, 23, 4}, {22956, 36756, 21, 4}, {22978, 36760, 21, 4}, {23000, 36764, 19, 4},
+    {23040, 36768, 17, 4}, {23058, 36772, 16, 4}, {23075, 36776, 17, 4}, {23093, 36780, 19, 4}, {23113, 36784, 14, 4},
+    {23128, 36788, 21, 4}, {23150, 36792, 19, 4}, {23170, 36796, 16, 4}, {23187, 36800, 16, 4}, {23204, 36804, 17, 4},
+    {23222, 36808, 18, 4}, {23241, 36812, 17, 4}, {23259, 36816, 18, 4}, {23278, 36820, 23, 4}, {23302, 36824, 19, 4},
+    {23322, 36828, 19, 4}, {23342, 36832, 20, 4}, {23363, 36836, 15, 4}, {23379, 36840, 16, 4}, {23396, 36844, 15, 4},
+    {23412, 36848, 18, 4}, {23431, 36852, 19, 4}, {23451, 36856, 18, 4}, {23470, 36864, 16, 4}, {23487, 36868, 17, 4},
+    {23505, 36872, 16, 4}, {23522, 36876, 19, 4}, {23552, 36880, 20, 4}, {23573, 36884, 19, 4}, {23593, 36888, 22, 4},
+    {23616, 36892, 22, 4}, {23639, 36896, 19, 4}, {23659, 36900, 16, 4}, {23676, 36904, 17, 4}, {23694, 36908, 16, 4},
+    {23711, 36912, 24, 4}, {23736, 36916, 27, 4}, {23764, 36920, 24, 4}, {22103, 36924, 10, 3}, {22114, 36924, 18, 3},
+    {23789, 36927, 15, 4}, {23805, 36927, 18, 4}, {23824, 36931, 13, 4}, {23838, 36931, 23, 4}, {23862, 36935, 16, 4},
+    {23879, 36939, 13, 4}, {23893, 36943, 13, 4}, {23907, 36947, 9, 4}, {23917, 36947, 23, 4}, {22133, 36951, 8, 3},
+    {24209, 36954, 12, 4}, {24320, 36958, 16, 5}, {24337, 36963, 13, 5}, {24222, 36968, 15, 4}, {24238, 36968, 28, 4},
+    {24267, 36972, 17, 4}, {24351, 36976, 17, 5}, {24369, 36981, 21, 5}, {24285, 36986, 14, 4}, {24300, 36986, 19, 4},
+    {24391, 36990, 18, 5}, {24447, 36995, 19, 6}, {24467, 36995, 19, 6}, {24410, 37001, 17, 5}, {24487, 37006, 13, 6},
+    {24501, 37006, 17, 6}, {24519, 37012, 18, 6}, {24538, 37012, 17, 6}, {24428, 37018, 18, 5}, {24576, 37023, 17, 6},
+    {24594, 37023, 22, 6}, {24617, 37029, 17, 6}, {24635, 37029, 23, 6}, {22142, 37035, 10, 3}, {23941, 37038, 15, 4},
+    {22153, 37042, 11, 3}, {22165, 37042, 22, 3}, {23957, 37045, 18, 4}, {23976, 37049, 16, 4}, {23993, 37053, 17, 4},
+    {24011, 37057, 21, 4}, {24033, 37061, 17, 4}, {24064, 37065, 14, 4}, {24079, 37069, 16, 4}, {24096, 37073, 24, 4},
+    {24121, 37077, 23, 4}, {24145, 37081, 18, 4}, {24164, 37085, 17, 4}, {24182, 37089, 26, 4}, {22188, 37093, 9, 3},
+    {24659, 37096, 18, 4}, {24735, 37100, 14, 4}, {24750, 37104, 20, 4}, {24678, 37108, 16, 4}, {24695, 37112, 25, 4},
+    {24721, 37116, 13, 4}, {24771, 37120, 15, 5}, {25280, 37125, 3, 2}, {25284, 37127, 7, 3}, {25750, 37130, 22, 5},
+    {25773, 37135, 22, 5}, {25796, 37140, 22, 5}, {25819, 37145, 22, 5}, {25842, 37150, 22, 5}, {25865, 37155, 22, 5},
+    {25888, 37160, 22, 5}, {25911, 37165, 22, 5}, {25934, 37170, 23, 5}, {25958, 37175, 23, 5}, {25982, 37180, 23, 5},
+    {45097, 37185, 3, 3}, {45101, 37185, 23, 3}, {45125, 37188, 34, 4}, {46028, 37192, 16, 5}, {105946, 37192, 16, 5},
+    {46045, 37197, 9, 5}, {105963, 37197, 9, 5}, {46055, 37202, 11, 5}, {105984, 37202, 11, 5}, {105996, 37207, 21, 5},
+    {106018, 37212, 14, 5}, {106033, 37217, 16, 5}, {46080, 37222, 18, 5}, {46099, 37227, 22, 5}, {46122, 37232, 19, 5},
+    {46142, 37237, 22, 5}, {46165, 37242, 19, 5}, {46185, 37247, 12, 5}, {46198, 37252, 17, 5}, {107827, 37252, 17, 5},
+    {46216, 37257, 26, 5}, {107845, 37257, 26, 5}, {46243, 37262, 23, 5}, {107872, 37262, 23, 5}, {46267, 37267, 23, 5},
+    {46291, 37272, 33, 5}, {46325, 37272, 28, 5}, {46354, 37277, 24, 5}, {46379, 37277, 19, 5}, {46399, 37282, 35, 5},
+    {46435, 37282, 34, 5}, {46470, 37287, 31, 5}, {46502, 37287, 30, 5}, {46533, 37292, 27, 5}, {46561, 37292, 25, 5},
+    {45160, 37297, 33, 4}, {47563, 37301, 16, 5}, {45194, 37306, 34, 4}, {46852, 37310, 18, 5}, {45229, 37315, 17, 4},
+    {45247, 37315, 40, 4}, {45568, 37319, 10, 5}, {45579, 37319, 30, 5}, {45610, 37324, 30, 6}, {45641, 37324, 32, 6},
+    {45674, 37330, 29, 6}, {45704, 37330, 28, 6}, {45733, 37336, 24, 6}, {45758, 37336, 30, 6}, {45789, 37342, 20, 6},
+    {45810, 37342, 18, 6}, {45829, 37348, 22, 6}, {45852, 37348, 20, 6}, {45873, 37354, 21, 6}, {45895, 37354, 26, 6},
+    {45922, 37360, 28, 6}, {45951, 37360, 26, 6}, {46592, 37366, 31, 7}, {46624, 37366, 32, 7}, {46657, 37376, 31, 7},
+    {46689, 37376, 32, 7}, {46722, 37383, 31, 7}, {46754, 37383, 32, 7}, {46787, 37390, 27, 7}, {46815, 37390, 36, 7},
+    {45978, 37397, 25, 6}, {46004, 37397, 23, 6}, {45288, 37403, 46, 4}, {47371, 37407, 20, 5}, {47392, 37412, 18, 5},
+    {47411, 37417, 36, 5}, {47448, 37422, 40, 5}, {47489, 37427, 41, 5}, {47531, 37432, 31, 5}, {45335, 37437, 36, 4},
+    {46871, 37441, 27, 5}, {46899, 37446, 35, 5}, {46935, 37446, 30, 5}, {78461, 37446, 20, 5}, {46966, 37451, 36, 5},
+    {47003, 37456, 29, 5}, {47033, 37456, 24, 5}, {47058, 37461, 40, 5}, {47104, 37461, 36, 5}, {47141, 37466, 34, 5},
+    {47176, 37466, 30, 5}, {47207, 37471, 45, 5}, {47253, 37471, 41, 5}, {47295, 37476, 39, 5}, {47335, 37476, 35, 5},
+    {45372, 37481, 6, 4}, {45379, 37481, 44, 4}, {48128, 37485, 35, 5}, {48164, 37485, 43, 5}, {45424, 37490, 11, 4},
+    {45436, 37490, 39, 4}, {47580, 37494, 23, 5}, {47616, 37494, 20, 5}, {47637, 37499, 19, 5}, {47657, 37499, 16, 5},
+    {47674, 37504, 24, 5}, {47699, 37504, 21, 5}, {45476, 37509, 12, 4}, {45489, 37509, 32, 4}, {47721, 37513, 27, 5},
+    {47749, 37513, 19, 5}, {47769, 37518, 31, 6}, {47801, 37518, 31, 6}, {47833, 37524, 32, 6}, {47866, 37524, 40, 6},
+    {47907, 37530, 32, 6}, {47940, 37530, 42, 6}, {47983, 37536, 32, 6}, {48016, 37536, 20, 6}, {48037, 37542, 32, 6},
+    {48070, 37542, 20, 6}, {45522, 37548, 10, 4}, {45533, 37548, 30, 4}, {48208, 37552, 9, 5}, {48218, 37552, 21, 5},
+    {48314, 37557, 17, 6}, {48332, 37557, 13, 6}, {48346, 37563, 31, 6}, {48378, 37563, 28, 6}, {48407, 37569, 24, 6},
+    {48432, 37569, 21, 6}, {48454, 37575, 24, 6}, {48479, 37575, 21, 6}, {48501, 37581, 32, 6}, {48534, 37581, 31, 6},
+    {48566, 37587, 19, 6}, {48586, 37587, 16, 6}, {48603, 37593, 22, 6}, {48640, 37593, 20, 6}, {48661, 37599, 20, 6},
+    {48682, 37599, 17, 6}, {48700, 37605, 13, 6}, {48714, 37605, 23, 6}, {48738, 37611, 13, 6}, {48752, 37611, 31, 6},
+    {48784, 37617, 38, 6}, {48823, 37617, 36, 6}, {48860, 37623, 47, 6}, {48908, 37623, 46, 6}, {48955, 37629, 42, 6},
+    {48998, 37629, 41, 6}, {49040, 37635, 38, 6}, {49079, 37635, 36, 6}, {49116, 37641, 13, 6}, {49152, 37641, 35, 6},
+    {49188, 37647, 16, 6}, {49205, 37647, 22, 6}, {49228, 37653, 13, 6}, {49242, 37653, 33, 6}, {49276, 37659, 20, 6},
+    {49297, 37659, 16, 6}, {49314, 37665, 19, 6}, {49334, 37665, 15, 6}, {49350, 37671, 23, 6}, {49374, 37671, 36, 6},
+    {49411, 37677, 19, 6}, {49431, 37677, 16, 6}, {48240, 37683, 15, 5}, {48256, 37683, 20, 5}, {49448, 37688, 31, 6},
+    {49480, 37688, 36, 6}, {49517, 37694, 24, 6}, {49542, 37694, 29, 6}, {49572, 37700, 26, 6}, {49599, 37700, 31, 6},
+    {49631, 37706, 25, 6}, {49664, 37706, 30, 6}, {49695, 37712, 41, 6}, {49737, 37712, 47, 6}, {49785, 37718, 28, 6},
+    {49814, 37718, 33, 6}, {49848, 37724, 25, 6}, {49874, 37724, 30, 6}, {49905, 37730, 32, 6}, {49938, 37730, 37, 6},
+    {49976, 37736, 25, 6}, {50002, 37736, 30, 6}, {50033, 37742, 26, 6}, {50060, 37742, 31, 6}, {50092, 37748, 26, 6},
+    {50119, 37748, 31, 6}, {50176, 37754, 28, 6}, {50205, 37754, 33, 6}, {50239, 37760, 28, 6}, {50268, 37760, 33, 6},
+    {50302, 37766, 36, 6}, {50339, 37766, 42, 6}, {50382, 37772, 24, 6}, {50407, 37772, 29, 6}, {50437, 37778, 25, 6},
+    {50463, 37778, 30, 6}, {50494, 37784, 28, 6}, {50523, 37784, 33, 6}, {50557, 37790, 26, 6}, {50584, 37790, 31, 6},
+    {50616, 37796, 26, 6}, {50643, 37796, 31, 6}, {50688, 37802, 25, 6}, {50714, 37802, 30, 6}, {50745, 37808, 30, 6},
+    {50776, 37808, 35, 6}, {50812, 37814, 35, 6}, {50848, 37814, 41, 6}, {50890, 37820, 36, 6}, {50927, 37820, 42, 6},
+    {50970, 37826, 29, 6}, {51000, 37826, 34, 6}, {51035, 37832, 25, 6}, {51061, 37832, 30, 6}, {51092, 37838, 33, 6},
+    {51126, 37838, 40, 6}, {51167, 37844, 20, 6}, {51200, 37844, 25, 6}, {51226, 37850, 18, 6}, {51245, 37850, 23, 6},
+    {51269, 37856, 21, 6}, {51291, 37856, 26, 6}, {51318, 37862, 30, 6}, {51349, 37862, 35, 6}, {51385, 37868, 14, 6},
+    {51400, 37868, 40, 6}, {51441, 37874, 39, 6}, {51481, 37874, 45, 6}, {51527, 37888, 39, 6}, {51567, 37888, 45, 6},
+    {51613, 37894, 48, 6}, {51712, 37894, 55, 6}, {51768, 37900, 43, 6}, {51812, 37900, 50, 6}, {51863, 37906, 14, 6},
+    {51878, 37906, 43, 6}, {51922, 37912, 20, 6}, {51943, 37912, 25, 6}, {48277, 37918, 15, 5}, {48293, 37918, 20, 5},
+    {452, 37923, 16, 3}, {469, 37926, 20, 4}, {512, 37930, 19, 5}, {532, 37930, 13, 5}, {79213, 37930, 19, 5},
+    {546, 37935, 21, 5}, {568, 37940, 16, 6}, {79233, 37940, 17, 6}, {585, 37946, 22, 6}, {79251, 37946, 23, 6},
+    {608, 37952, 20, 6}, {79275, 37952, 21, 6}, {629, 37958, 31, 5}, {79297, 37958, 34, 5}, {661, 37963, 25, 5},
+    {687, 37968, 12, 6}, {700, 37974, 14, 5}, {715, 37979, 17, 6}, {54784, 37985, 28, 6}, {733, 37991, 17, 6},
+    {54813, 37997, 26, 6}, {54840, 38003, 25, 5}, {54866, 38008, 16, 5}, {54883, 38013, 22, 4}, {54906, 38017, 28, 5},
+    {54935, 38017, 26, 5}, {103808, 38017, 29, 5}, {54962, 38022, 19, 4}, {54982, 38026, 26, 4}, {112988, 38030, 18, 1},
+    {113007, 38031, 18, 1}, {113026, 38032, 18, 1}, {113045, 38033, 18, 1}, {113152, 38034, 18, 1},
+    {113064, 38035, 18, 2}, {113083, 38037, 18, 2}, {113102, 38039, 18, 2}, {113270, 38041, 0, 0},
 };
 
 /* The name of the entry at an index, and its octets. An index must be below CONST_OID_COMMON_NAMES_COUNT, at which
@@ -4277,860 +4268,863 @@ CONST_OID_NODISCARD CONST_OID_INLINE const_oid_octets const_oid_common_octets(si
 /* The indexes of the entries by a hash of their names, each in the first slot that is free from its own on. Those with
  * one name are in the order of the table. In the slots that are free is CONST_OID_COMMON_NAMES_COUNT, as in the last. */
 CONST_OID_TABLE const uint16_t const_oid_common_names_by_hash[] = {
-    5972, 5972, 1576, 5972, 5463, 1629, 70, 5972, 1867, 5972, 5972, 637, 5972, 5593, 5972, 5972, 4760, 82, 5972, 5972,
-    3845, 5972, 5972, 1905, 3149, 740, 4566, 254, 2026, 255, 5709, 5693, 3107, 4817, 5878, 3136, 3014, 4478, 2794, 2350,
-    2254, 3223, 4615, 4616, 3990, 463, 261, 3685, 2120, 3526, 5646, 3821, 2821, 3647, 837, 5967, 5972, 2713, 4895, 116,
-    361, 5647, 3364, 5972, 5972, 5972, 3422, 5486, 5777, 1423, 5616, 4215, 4802, 3156, 3669, 3291, 2245, 3795, 5416,
-    3202, 678, 4731, 5972, 5972, 5972, 1568, 5972, 5972, 2013, 5475, 5654, 3066, 999, 1192, 5972, 2847, 1740, 1764, 974,
-    2953, 2642, 1793, 87, 755, 2147, 2475, 2499, 4631, 510, 2071, 2705, 3966, 4115, 5227, 5228, 5364, 156, 158, 1079,
-    4863, 5972, 753, 4727, 4979, 5972, 967, 4351, 3483, 1450, 2131, 191, 122, 5972, 1113, 5972, 1463, 5972, 5972, 1259,
-    1580, 5628, 4636, 5399, 3151, 5972, 5972, 4955, 5972, 1567, 4526, 2483, 5784, 5808, 5972, 1346, 1792, 4875, 5055,
-    3271, 4796, 2064, 3319, 3363, 5972, 5972, 1380, 1276, 4350, 5972, 1721, 4042, 717, 2236, 1418, 4496, 4066, 5972,
-    5972, 5972, 5041, 3213, 5972, 1471, 2484, 109, 2612, 5972, 5006, 3247, 5972, 5972, 5972, 5972, 4826, 5972, 1870,
-    4987, 2651, 4343, 3504, 761, 1596, 432, 5946, 5383, 5835, 2768, 3263, 2511, 1451, 2564, 1606, 2045, 3012, 2789,
-    2632, 337, 720, 992, 5865, 4091, 2893, 588, 5843, 2138, 3350, 3619, 3654, 2506, 2141, 195, 4469, 73, 2577, 1595,
-    5220, 5412, 4065, 4182, 932, 5753, 5972, 2691, 2515, 209, 5972, 2326, 2584, 4249, 3885, 3115, 1085, 3981, 3374,
-    5307, 5972, 1328, 5972, 5972, 2616, 1897, 1639, 4333, 2547, 664, 4643, 5972, 5972, 970, 5972, 5972, 5972, 4740, 170,
-    251, 1953, 5972, 5972, 5972, 5752, 98, 3521, 1417, 341, 5972, 2154, 3759, 5972, 2454, 5972, 4257, 5862, 5972, 5972,
-    5972, 2914, 3177, 1583, 4346, 493, 1321, 2769, 5972, 1575, 4821, 1365, 5972, 4864, 674, 5007, 2457, 3832, 5196,
-    5197, 897, 1694, 1363, 2332, 826, 1823, 1963, 1414, 3032, 5615, 5562, 48, 2755, 5972, 1654, 5972, 5972, 2664, 4142,
-    30, 31, 5778, 5972, 3935, 1282, 2331, 5972, 629, 5357, 4930, 5972, 2219, 5972, 5972, 5972, 188, 3661, 2021, 3087,
-    734, 4799, 1505, 5577, 5356, 3283, 1584, 4395, 4547, 5972, 5972, 4661, 4022, 3608, 3642, 5972, 5972, 5972, 5972,
-    4542, 5972, 5972, 5618, 3399, 3855, 4693, 1123, 3304, 2591, 5761, 1489, 3169, 5869, 1310, 4515, 5485, 2334, 1799,
-    5017, 2485, 3272, 2405, 2800, 2901, 150, 5837, 5922, 596, 4311, 3830, 1103, 4040, 5972, 5972, 3672, 2921, 5972,
-    5972, 5972, 4951, 5972, 1667, 1294, 1257, 4036, 2652, 1719, 5295, 946, 300, 301, 4168, 1024, 2728, 2428, 3994, 683,
-    1477, 726, 4136, 3693, 5380, 304, 1711, 305, 4035, 4759, 2822, 3837, 2417, 5433, 3621, 110, 245, 469, 1761, 3467,
-    2817, 3244, 2165, 3736, 4118, 5145, 528, 578, 1251, 4401, 1521, 5972, 5972, 804, 5972, 2007, 5972, 5972, 2903, 2884,
-    5000, 624, 5972, 4006, 3609, 5263, 5972, 5972, 389, 5972, 1284, 2069, 1047, 4100, 5411, 5972, 5972, 5972, 390, 5972,
-    5972, 5972, 344, 5152, 5972, 4996, 2424, 1162, 1949, 1990, 5457, 5274, 509, 5972, 5972, 5972, 5791, 5972, 2512,
-    5930, 820, 397, 401, 672, 351, 3670, 1811, 2050, 5322, 4550, 5970, 5972, 3016, 5972, 3725, 2744, 4745, 5972, 358,
-    5972, 3525, 412, 2724, 4794, 5972, 5972, 5972, 5972, 5972, 5972, 1170, 5972, 5972, 5673, 5972, 984, 5191, 4960, 699,
-    5972, 1846, 968, 2283, 5972, 2439, 3109, 4223, 194, 5423, 5734, 5972, 2851, 5568, 3038, 591, 246, 247, 1679, 3812,
-    4491, 1280, 1697, 2418, 2878, 2525, 5787, 3336, 1533, 57, 1665, 1688, 3090, 5224, 5160, 5972, 5972, 5972, 5972,
-    2532, 584, 524, 2860, 5972, 3683, 268, 5972, 5836, 5972, 2723, 5972, 1547, 1653, 598, 5972, 5972, 5075, 5303, 950,
-    409, 5972, 5972, 1995, 2267, 834, 5972, 991, 1945, 4510, 1895, 2640, 185, 957, 5506, 5098, 3829, 398, 2619, 5192,
-    2579, 115, 18, 19, 3434, 4533, 2662, 2232, 4335, 862, 2975, 1279, 632, 5972, 1674, 5972, 2395, 663, 4135, 4361, 405,
-    1663, 4080, 5889, 3921, 2098, 1959, 2156, 5972, 5972, 5972, 5972, 1496, 1036, 1066, 3468, 5972, 2792, 5972, 5972,
-    5972, 291, 292, 5035, 3418, 2913, 3284, 5972, 5972, 3361, 5972, 729, 715, 691, 3254, 4886, 2754, 2834, 659, 5972,
-    76, 2218, 5972, 5972, 5972, 20, 21, 4166, 3463, 67, 4780, 1804, 819, 4662, 5343, 1880, 3400, 2688, 5972, 5972, 5972,
-    5972, 5972, 3719, 3894, 3110, 5516, 5972, 5972, 5169, 5972, 4177, 636, 2270, 3716, 5972, 5903, 4292, 5972, 5972,
-    2910, 380, 5972, 5972, 5972, 5972, 2408, 3600, 5816, 5822, 2403, 5268, 1881, 4048, 1092, 1709, 1876, 3048, 2592,
-    4634, 503, 443, 1969, 5518, 3225, 2690, 2294, 592, 187, 1443, 4495, 5434, 746, 1868, 4520, 3735, 4148, 2057, 2870,
-    1736, 2580, 4715, 2763, 5966, 5972, 3905, 5972, 5972, 873, 5972, 1669, 5972, 5122, 702, 5972, 4199, 3944, 5958,
-    2187, 1615, 5972, 5972, 2265, 5972, 5972, 5972, 5972, 754, 4070, 5634, 2753, 5972, 5972, 5972, 502, 2631, 1892,
-    1441, 3805, 2366, 2416, 1737, 2863, 5056, 4039, 3766, 105, 5972, 5972, 5972, 1262, 5972, 5016, 2940, 5972, 5972,
-    5972, 5326, 3462, 5972, 5456, 4397, 883, 1598, 5972, 5972, 1207, 5972, 1142, 5972, 2502, 5972, 2716, 5972, 5381,
-    5697, 3303, 694, 5118, 1296, 459, 3756, 479, 2784, 5826, 438, 1371, 5972, 3852, 5972, 5972, 5972, 5972, 5972, 4709,
-    1071, 1304, 4348, 1781, 3293, 5972, 3588, 5972, 5972, 1327, 5972, 5972, 5972, 5972, 5972, 1179, 4681, 5972, 5972,
-    4267, 698, 1528, 812, 5972, 5972, 60, 945, 2456, 843, 5972, 5972, 5972, 2357, 1554, 3102, 3103, 5972, 5972, 5972,
-    3856, 3703, 5972, 5972, 3424, 2759, 2775, 2252, 470, 1176, 5972, 4342, 5972, 5928, 4092, 1835, 4822, 5839, 4025,
-    1534, 4861, 5972, 603, 809, 1188, 4314, 4857, 5044, 1181, 904, 5972, 5972, 5972, 5972, 5972, 642, 4387, 3581, 5088,
-    1202, 3228, 4655, 5972, 5972, 2174, 2215, 5972, 2445, 2473, 5289, 2410, 792, 456, 2918, 3667, 2160, 2249, 5972,
-    5972, 5972, 1723, 490, 3200, 5001, 50, 2760, 1590, 167, 1332, 3979, 3201, 4323, 5972, 5972, 5972, 5972, 5929, 5202,
-    733, 5251, 1695, 5252, 2040, 5972, 5972, 923, 5661, 1936, 5972, 4678, 4451, 348, 4596, 3168, 2528, 238, 1812, 239,
-    4058, 5084, 5918, 4711, 3124, 518, 3518, 1239, 973, 1180, 2983, 3053, 364, 2446, 1983, 2115, 2127, 2213, 482, 2546,
-    4586, 3828, 5448, 4200, 1306, 3838, 5110, 4137, 5195, 5329, 818, 4764, 5972, 4169, 429, 5342, 690, 2823, 1652, 5972,
-    4457, 2504, 1159, 4159, 5481, 1160, 4213, 4098, 878, 2857, 379, 4700, 3849, 4927, 4912, 1126, 712, 5972, 5972, 2463,
-    751, 2994, 4427, 1906, 4083, 2474, 2868, 374, 2257, 5524, 4653, 5283, 5284, 5183, 467, 3859, 89, 2481, 202, 5972,
-    92, 5972, 5972, 5972, 1796, 5972, 1712, 2260, 639, 5639, 3722, 3484, 3939, 1686, 1347, 3777, 5972, 5010, 5972, 5972,
-    5972, 5972, 2788, 5027, 2952, 2209, 570, 1614, 5972, 5972, 4253, 5972, 1243, 74, 5972, 1914, 4926, 5972, 5972, 5972,
-    2560, 850, 3453, 2735, 2865, 860, 3612, 4121, 1753, 4536, 3069, 1601, 3198, 4462, 371, 1689, 4971, 676, 2046, 3718,
-    5972, 2565, 336, 1029, 2122, 5972, 4372, 5337, 5519, 2609, 183, 5338, 5162, 2491, 4648, 3307, 5569, 5285, 1806,
-    5597, 3758, 2836, 2557, 2572, 2526, 1355, 1317, 2101, 2382, 4580, 4581, 2238, 2286, 3342, 5444, 3732, 609, 551,
-    1393, 36, 37, 1373, 665, 5451, 5972, 5972, 5972, 735, 2882, 5972, 2736, 2413, 2814, 2660, 1724, 3700, 3946, 4079,
-    4598, 385, 952, 4464, 357, 391, 3459, 3831, 772, 1116, 2435, 2997, 4394, 1839, 334, 3622, 4459, 497, 5849, 5745,
-    1617, 4386, 5828, 5018, 5291, 1578, 885, 2730, 2140, 2192, 1722, 224, 2015, 225, 4667, 587, 1349, 3096, 330, 3354,
-    3011, 2205, 146, 5935, 1920, 151, 3741, 619, 5096, 1074, 5712, 4381, 3729, 5972, 5972, 3240, 5972, 4867, 5972, 3819,
-    4900, 5563, 5644, 975, 925, 3211, 461, 2253, 5972, 4514, 4082, 5972, 5335, 5972, 541, 2880, 1627, 5148, 3019, 4793,
-    5972, 5972, 5972, 1861, 1710, 1889, 2530, 1316, 455, 3712, 3999, 3077, 4724, 1291, 4088, 5488, 1406, 4768, 5972,
-    3396, 1167, 3704, 393, 65, 1083, 1783, 3033, 4925, 1088, 794, 2058, 1392, 1514, 4695, 4558, 1336, 3823, 4665, 5592,
-    5972, 5972, 2741, 1632, 106, 3233, 1873, 3595, 4534, 5972, 24, 25, 4280, 4682, 3938, 5961, 3226, 4696, 5972, 2399,
-    5972, 867, 5636, 5972, 5972, 4055, 5972, 5972, 4354, 5972, 5972, 917, 3875, 5972, 4163, 5972, 730, 3432, 5964, 1302,
-    3273, 5449, 5042, 3933, 2927, 1541, 5070, 902, 454, 5601, 345, 738, 2177, 102, 2739, 2608, 2472, 2938, 4985, 3950,
-    2853, 3245, 5972, 1947, 5972, 4776, 5972, 5972, 5972, 5972, 2871, 5972, 5972, 1515, 1526, 4447, 5738, 5287, 2033,
-    5972, 5972, 5972, 5972, 5972, 3334, 5972, 4628, 4881, 935, 958, 5959, 5533, 995, 1260, 3896, 4570, 1987, 4193, 5972,
-    1748, 1819, 2562, 5972, 5972, 5972, 749, 5972, 5972, 2281, 5657, 5290, 4277, 5546, 3529, 5846, 5722, 1698, 829,
-    1788, 5255, 2761, 2912, 1054, 2771, 4383, 5759, 4012, 1720, 1362, 1968, 4488, 289, 2496, 290, 4883, 2929, 2111,
-    2175, 2233, 3827, 886, 797, 2718, 1706, 3671, 5898, 2284, 1797, 1980, 5811, 3229, 2879, 5957, 2289, 196, 68, 3653,
-    822, 1670, 5972, 5972, 5972, 5972, 5972, 2540, 5043, 5972, 1882, 5972, 5972, 5756, 2230, 5972, 5972, 5972, 5972,
-    5972, 1150, 2638, 1714, 1845, 784, 989, 44, 45, 2084, 2273, 2243, 155, 4579, 5452, 5840, 3532, 2114, 3715, 4104,
-    1716, 5067, 3717, 1981, 5476, 1536, 3768, 84, 4500, 5293, 5972, 5972, 5972, 4252, 5972, 2464, 5972, 5972, 1241,
-    1320, 1635, 718, 5972, 988, 5972, 5972, 5972, 5972, 5767, 2090, 2639, 5167, 4087, 752, 5972, 5972, 574, 2649, 1859,
-    1481, 2743, 2065, 2960, 5972, 5972, 5972, 5972, 1172, 5879, 3403, 526, 5972, 63, 877, 5972, 3020, 4830, 2264, 5972,
-    1009, 5972, 5972, 5972, 3380, 2436, 823, 5972, 1647, 323, 1014, 3266, 2610, 5359, 324, 3559, 5703, 3127, 1157, 3199,
-    2124, 2290, 3658, 940, 4765, 5464, 5972, 5972, 1433, 5972, 2505, 4217, 5972, 5972, 3390, 1006, 5972, 3051, 529,
-    3490, 5972, 5972, 5972, 5635, 5760, 1301, 5689, 5755, 3238, 1295, 2965, 3234, 3613, 4769, 2421, 2195, 5972, 5972,
-    5479, 4176, 5153, 1341, 1187, 3277, 3219, 5561, 5179, 1642, 5140, 5972, 4805, 3783, 5883, 5972, 5972, 3344, 1034,
-    211, 5972, 5972, 5972, 5972, 3877, 2014, 5972, 1840, 457, 1340, 5972, 2471, 3091, 5972, 2590, 5914, 1609, 5077,
-    5540, 2110, 5972, 5972, 5972, 5972, 1743, 1011, 2082, 5972, 5972, 5972, 4187, 5972, 3171, 5972, 5972, 5972, 5972,
-    5972, 5972, 911, 1829, 5154, 5155, 3477, 2647, 3780, 1411, 4236, 4446, 2455, 4077, 2531, 5972, 2415, 5972, 5972,
-    5972, 1287, 5790, 5002, 1326, 765, 2992, 5972, 2951, 5972, 5972, 4149, 5972, 5972, 4119, 2622, 5972, 4377, 163, 424,
-    5972, 4808, 851, 5187, 4273, 4716, 2674, 2161, 5720, 5460, 5972, 2462, 4613, 5206, 373, 3814, 5025, 3320, 869, 3687,
-    5972, 5972, 5972, 5972, 4307, 1233, 4352, 4143, 4109, 2683, 2183, 2969, 2269, 4408, 3644, 1520, 5896, 5496, 959,
-    1130, 565, 1548, 5838, 1453, 2006, 4024, 1174, 1394, 4324, 2677, 282, 283, 408, 1318, 51, 1375, 626, 3377, 564,
-    5972, 5972, 1795, 5298, 5163, 5271, 3983, 5972, 4726, 5972, 353, 2434, 4729, 4923, 5972, 5972, 2459, 568, 2349,
-    5972, 5972, 5972, 4138, 3714, 5972, 5972, 5972, 5972, 3357, 4503, 5638, 4884, 3992, 5972, 5913, 5972, 5972, 533,
-    1988, 2904, 5061, 5972, 471, 5086, 2974, 1056, 5325, 3876, 5503, 1344, 2996, 577, 1816, 3375, 4748, 2782, 2803, 466,
-    2795, 3207, 2216, 4466, 3882, 5231, 5972, 5972, 5779, 2553, 3480, 1151, 1535, 2, 5972, 5931, 5664, 916, 458, 5972,
-    5972, 5972, 5972, 602, 494, 5653, 5972, 1040, 3874, 5805, 3157, 2488, 3353, 203, 5972, 5972, 5972, 5972, 515, 2615,
-    5508, 2056, 5972, 5972, 4904, 5972, 5545, 2696, 5972, 5972, 5972, 3063, 3444, 5972, 5972, 415, 5238, 2961, 5972,
-    5972, 5127, 4641, 2748, 3576, 403, 5814, 5254, 1586, 2603, 1178, 4540, 1183, 3740, 5972, 5972, 5972, 1680, 5972,
-    5526, 5972, 5972, 5972, 5972, 1158, 536, 3711, 3820, 2381, 3973, 5972, 5972, 3446, 244, 3407, 5972, 5972, 5972,
-    5972, 5972, 5972, 5972, 5972, 5972, 4158, 5972, 802, 5972, 5972, 1449, 5525, 5019, 2259, 2041, 1738, 723, 5972,
-    3368, 5650, 608, 3689, 5972, 5972, 5972, 4242, 4238, 2189, 5972, 3250, 118, 5656, 1264, 3282, 5671, 3533, 3818,
-    1611, 4828, 4829, 3360, 1850, 3292, 3414, 85, 4758, 2972, 1565, 2119, 4044, 1844, 4306, 1015, 1455, 3248, 3373,
-    5262, 5087, 404, 4833, 2256, 2272, 3745, 3751, 1682, 5170, 56, 1101, 5013, 5696, 4486, 3355, 2404, 5887, 1948, 2545,
-    2314, 5972, 2620, 5972, 96, 4978, 3895, 3920, 2406, 3692, 2623, 3746, 5972, 1605, 5614, 3331, 4167, 2828, 2906,
-    3267, 3868, 5972, 4290, 743, 1118, 2433, 5861, 2825, 4, 2924, 436, 5934, 3327, 1943, 4940, 1258, 5575, 766, 2107,
-    1802, 868, 5097, 1974, 1600, 2329, 1760, 5489, 3040, 368, 4474, 4476, 5445, 2010, 3652, 795, 3974, 5972, 631, 5972,
-    5972, 1661, 4146, 5972, 5972, 5972, 4460, 5972, 5972, 5972, 5972, 2897, 4209, 3455, 3571, 3641, 3256, 1622, 1001,
-    5948, 1240, 489, 2740, 4684, 5157, 1410, 5972, 5972, 4405, 5512, 5972, 2522, 1128, 1311, 5483, 4407, 5315, 3054,
-    4129, 2627, 616, 2889, 5173, 3297, 3034, 1023, 1656, 1245, 2353, 4640, 4633, 1569, 4110, 5941, 5724, 5207, 5625,
-    2809, 3313, 1334, 5702, 4191, 3913, 4259, 5972, 5626, 4128, 1701, 200, 5972, 4911, 5972, 2255, 5541, 4652, 5972,
-    4061, 4948, 3739, 485, 5972, 3603, 5728, 5932, 5972, 5972, 5972, 5972, 5972, 5972, 271, 3074, 272, 5972, 2030, 5972,
-    1869, 5972, 5972, 5770, 2976, 5972, 5972, 1715, 5972, 5972, 5972, 5151, 5972, 3583, 1082, 4399, 2043, 5972, 5972,
-    5011, 4047, 2402, 5366, 3853, 4245, 3321, 5762, 4073, 5120, 5071, 4713, 2097, 3800, 1524, 775, 325, 217, 3861, 3889,
-    1777, 1763, 1836, 3650, 3651, 1483, 2450, 4527, 955, 5631, 3071, 296, 297, 3631, 4977, 2108, 2152, 164, 3785, 3866,
-    313, 314, 500, 2919, 3699, 5131, 3579, 4020, 3870, 1367, 4775, 554, 3638, 5094, 5972, 5972, 5678, 5972, 5972, 5178,
-    1401, 5972, 5972, 1992, 3567, 5704, 2916, 491, 1954, 93, 5705, 1348, 2831, 4589, 2962, 1822, 546, 5660, 760, 2936,
-    2164, 716, 38, 39, 1131, 3770, 5972, 5972, 5972, 5972, 2351, 924, 1527, 2139, 3677, 5607, 5611, 2022, 388, 3578,
-    3132, 4145, 610, 5706, 5802, 4432, 5972, 525, 5972, 5972, 3159, 3457, 1217, 5972, 5560, 3539, 5972, 4909, 5694,
-    1558, 5669, 4680, 769, 2520, 2641, 5620, 5891, 4859, 4032, 2251, 3991, 5470, 4773, 1399, 1775, 2708, 3655, 5566,
-    5321, 3359, 4860, 2665, 5873, 4008, 4009, 5164, 2766, 4609, 4610, 2489, 2933, 2179, 4206, 3036, 5135, 3592, 2217,
-    907, 4989, 3985, 1053, 3566, 5968, 5972, 1354, 5972, 5204, 5501, 1313, 3031, 5972, 1376, 5972, 5972, 5972, 5319,
-    2042, 5405, 5972, 5073, 5972, 5972, 750, 5972, 5972, 5972, 3383, 1912, 3384, 2477, 5467, 4710, 3404, 508, 5972,
-    5972, 5972, 4902, 5972, 1865, 1500, 124, 2214, 1386, 5095, 2598, 2628, 208, 1322, 4992, 5972, 1429, 1430, 5048,
-    5509, 4962, 1044, 2109, 5972, 5972, 5972, 3664, 0, 3886, 2798, 4635, 3155, 816, 2838, 2370, 22, 23, 780, 927, 2537,
-    4302, 3118, 2224, 5111, 3880, 2966, 5972, 5972, 5972, 5972, 5972, 5259, 5260, 5972, 4932, 2595, 2461, 1631, 2125,
-    2315, 4207, 5972, 3649, 2317, 3646, 1608, 2752, 184, 5972, 2129, 2027, 3510, 5425, 3737, 4450, 5916, 2866, 414,
-    4203, 1616, 5972, 2360, 69, 5972, 5972, 5972, 5972, 5972, 5972, 5972, 5972, 5972, 5972, 2911, 5323, 5972, 1431,
-    5972, 5972, 5972, 5972, 5972, 1057, 2967, 5972, 5972, 2524, 5313, 5972, 5972, 5972, 2819, 4339, 1230, 5972, 5972,
-    3362, 3197, 2089, 5972, 4552, 1766, 329, 5584, 4301, 913, 801, 3125, 1121, 2304, 622, 4733, 5972, 796, 1445, 149,
-    5972, 4293, 3786, 1005, 5972, 5972, 5972, 5972, 5972, 5972, 4356, 779, 5419, 2907, 5972, 5972, 5972, 915, 5972,
-    5972, 5972, 5972, 3004, 1630, 5972, 5972, 2839, 3854, 3620, 5972, 5972, 1692, 5972, 5972, 5184, 5185, 4114, 218,
-    1581, 127, 162, 5659, 4905, 2298, 5741, 4347, 306, 2698, 3791, 5559, 4714, 4340, 662, 119, 3013, 1427, 1428, 1976,
-    5691, 4529, 1924, 5972, 5972, 5972, 5972, 5972, 1733, 5972, 5972, 5972, 5972, 4181, 3694, 5282, 5972, 5972, 951,
-    5908, 4161, 3104, 3105, 3049, 5552, 2510, 417, 1993, 4889, 3726, 5264, 5972, 5972, 4950, 5972, 5972, 5972, 2367,
-    5972, 1814, 5384, 5972, 5972, 168, 936, 4034, 100, 905, 2900, 5972, 5972, 5972, 530, 4663, 3743, 5972, 4994, 5972,
-    1918, 5972, 5972, 5972, 153, 5972, 2371, 3730, 5972, 5972, 4089, 157, 4568, 3287, 5972, 1438, 821, 4413, 4694, 5972,
-    5972, 4122, 3860, 58, 5972, 3872, 557, 5407, 5972, 5972, 5972, 5972, 5972, 5972, 5972, 5972, 4241, 317, 846, 318,
-    5731, 4531, 2872, 5972, 5972, 890, 5747, 5498, 1114, 828, 559, 5923, 614, 4237, 4019, 331, 4359, 1214, 630, 2076,
-    1747, 4231, 4882, 5972, 5972, 1749, 4108, 2100, 1407, 5385, 1825, 3150, 5951, 234, 235, 3154, 3680, 776, 5420, 3094,
-    3674, 1883, 2311, 5972, 5972, 5370, 5972, 1540, 5972, 5972, 2811, 2548, 5972, 5972, 5972, 5972, 1884, 5972, 3769,
-    5972, 5972, 5769, 1555, 2773, 5972, 593, 1389, 5942, 5972, 5972, 5972, 5972, 5972, 3928, 114, 5972, 5514, 3029,
-    5972, 4767, 1952, 5972, 4572, 4369, 420, 5972, 4419, 1506, 3058, 4219, 3183, 342, 5972, 5807, 5972, 5972, 5972,
-    5972, 5972, 4321, 3602, 5972, 507, 4423, 2742, 2926, 5972, 5972, 5972, 5972, 937, 993, 3587, 3512, 5529, 1022, 1250,
-    5652, 4838, 5820, 2468, 4341, 4954, 1086, 5390, 1487, 3428, 4593, 5548, 3524, 1672, 4720, 1437, 5125, 688, 3316,
-    3205, 4721, 706, 5199, 360, 5972, 5124, 2670, 5972, 3629, 1193, 5972, 1049, 3239, 4507, 2072, 4982, 1956, 2070,
-    5972, 5972, 4150, 2048, 4728, 3445, 5972, 4289, 5972, 5972, 3435, 5972, 5482, 2908, 2103, 2300, 2201, 5972, 1454,
-    3917, 5972, 1886, 3221, 5972, 5606, 1122, 5972, 5972, 5972, 4725, 3260, 561, 1770, 583, 522, 3897, 2624, 5754, 1490,
-    1248, 1851, 2707, 2949, 2169, 4840, 3466, 3192, 2207, 4208, 786, 2466, 253, 3615, 5972, 3555, 5972, 4762, 1361,
-    2279, 5972, 5972, 5972, 2905, 3945, 5674, 4686, 2002, 2008, 5972, 5972, 5972, 1847, 1991, 1095, 964, 2568, 5972,
-    1872, 3401, 315, 316, 1472, 679, 1391, 5114, 4190, 5972, 1208, 5570, 3573, 5842, 2206, 2278, 1072, 5972, 3585, 5972,
-    5972, 5972, 914, 4235, 5972, 5972, 5972, 5972, 4543, 537, 5944, 2667, 1916, 3332, 1973, 1915, 1780, 2482, 3185,
-    1752, 2509, 3927, 4599, 2646, 1985, 4475, 4835, 3252, 4763, 5372, 2066, 152, 94, 4188, 5528, 1111, 1112, 3548, 4403,
-    4786, 130, 590, 1204, 5679, 2321, 5662, 2291, 3281, 3761, 1166, 620, 5176, 4707, 4265, 2516, 3947, 5844, 839, 1957,
-    5275, 5276, 453, 1594, 558, 5972, 5972, 179, 5686, 5972, 5972, 5972, 5937, 1267, 5144, 3984, 1650, 3308, 4371, 88,
-    5304, 5305, 2431, 4639, 2746, 4378, 2793, 2890, 1039, 1035, 3519, 2765, 3640, 4497, 2322, 5707, 4385, 445, 2337,
-    1997, 4244, 876, 1439, 4355, 4505, 909, 214, 5312, 5567, 221, 3100, 3101, 222, 4141, 3438, 5952, 1511, 5831, 5149,
-    1235, 4487, 4898, 4650, 2774, 2148, 3707, 1703, 99, 5134, 5474, 5972, 5972, 4443, 5369, 5972, 5972, 4622, 1517,
-    3464, 4069, 1742, 956, 4430, 5972, 5972, 2625, 759, 1447, 1984, 5972, 5972, 5972, 5972, 1542, 3175, 1503, 4812,
-    2384, 2955, 4156, 3606, 5972, 1132, 2044, 5972, 5972, 5972, 4585, 5972, 5972, 5175, 1930, 3577, 1182, 1785, 5866,
-    5972, 3625, 3916, 575, 2277, 962, 5972, 5972, 2363, 4530, 1557, 1758, 2414, 3312, 5103, 5972, 5972, 3734, 1325,
-    4112, 133, 2038, 5972, 5365, 2559, 440, 4456, 5972, 5972, 5972, 5972, 5544, 5972, 5972, 833, 5972, 5972, 5972, 5972,
-    4272, 5972, 2701, 5972, 5972, 4052, 3668, 5972, 5972, 83, 5972, 5972, 5403, 2767, 2802, 3826, 2198, 1612, 5972,
-    4418, 5972, 625, 5972, 5972, 5972, 5972, 5715, 5261, 4851, 1020, 5972, 3419, 5972, 5972, 5972, 5972, 4030, 4479,
-    5717, 1728, 1874, 4575, 1356, 472, 4379, 3980, 3744, 3755, 1458, 4492, 600, 1091, 3070, 5232, 1247, 1315, 129, 419,
-    3412, 3086, 4448, 3957, 1100, 1485, 1003, 2460, 2932, 534, 4788, 4093, 3557, 3924, 803, 3170, 5863, 1305, 5972,
-    5972, 465, 627, 1097, 2342, 5735, 777, 2453, 2193, 5972, 5972, 5736, 5972, 2846, 5972, 5972, 395, 5972, 2078, 5972,
-    3147, 2085, 2019, 4942, 5972, 2657, 1675, 285, 286, 3797, 969, 4232, 1106, 5972, 5099, 5972, 4270, 5750, 81, 5972,
-    5972, 5553, 3554, 3890, 3106, 5972, 5596, 3015, 5972, 5972, 1307, 5972, 4651, 5972, 1790, 4116, 5972, 5052, 5972,
-    5972, 4798, 516, 5821, 446, 4638, 922, 2419, 3531, 5972, 3925, 5972, 5972, 5972, 4785, 5972, 5972, 4151, 5972, 5972,
-    4103, 4630, 5972, 4439, 2581, 5972, 5972, 5396, 5972, 3696, 527, 1782, 5034, 34, 35, 3092, 298, 299, 3808, 1030,
-    4866, 3330, 4154, 2928, 3027, 1419, 1420, 319, 4086, 320, 3516, 2075, 2785, 5972, 5788, 5092, 3409, 1007, 1075,
-    5972, 5972, 4664, 5972, 5972, 5972, 4876, 5972, 2465, 4532, 71, 5972, 891, 5029, 126, 5972, 5972, 5972, 5794, 5972,
-    5972, 5472, 3617, 5972, 5972, 5972, 5972, 5972, 5972, 5972, 5972, 976, 4283, 2341, 3406, 5311, 865, 5972, 2086,
-    5972, 4834, 5972, 5294, 4801, 4111, 3265, 3182, 112, 5972, 2276, 5972, 745, 5972, 5972, 4220, 3695, 5972, 5917,
-    4416, 4016, 5766, 2561, 4657, 612, 5972, 5972, 5513, 5972, 5972, 4384, 5595, 5972, 5972, 5972, 5972, 2144, 774,
-    1127, 5972, 5142, 884, 5143, 1094, 912, 4284, 2017, 4332, 3003, 328, 3298, 2844, 3747, 5244, 4647, 844, 5972, 3061,
-    5827, 435, 3931, 965, 1312, 4224, 1293, 4933, 4949, 4915, 1164, 5026, 4928, 977, 5402, 5332, 2308, 5021, 5972, 5972,
-    5972, 5972, 5972, 5972, 4484, 2791, 5972, 5972, 5972, 4990, 3788, 4963, 3133, 3605, 771, 5972, 1619, 5972, 5972,
-    5972, 1154, 1155, 4548, 1690, 582, 5737, 653, 2727, 2848, 4329, 4001, 3448, 1384, 4965, 1461, 2521, 5886, 1338,
-    2935, 4986, 3129, 1908, 42, 43, 666, 667, 3922, 3675, 5608, 1532, 1572, 3166, 4975, 874, 586, 4676, 5060, 2987, 556,
-    4841, 4523, 3547, 5355, 3135, 1225, 4723, 1858, 431, 3393, 1246, 4463, 4178, 856, 2128, 5972, 985, 5972, 5972, 2102,
-    5972, 5953, 5972, 3145, 5972, 5972, 5744, 5972, 3076, 581, 4160, 2362, 1597, 4046, 3892, 176, 1206, 5875, 4433,
-    4470, 4597, 4316, 1765, 1923, 1270, 2443, 2813, 2204, 5972, 5972, 5972, 5637, 5972, 5972, 5547, 5972, 5972, 3085,
-    5972, 2296, 5161, 2199, 5972, 5972, 5972, 5936, 1727, 3511, 5870, 3709, 5972, 5226, 5677, 3765, 5972, 5972, 5392,
-    5972, 5200, 5201, 3080, 3161, 1124, 3710, 1750, 2780, 139, 3688, 1926, 468, 4084, 4420, 5972, 5972, 3538, 3275,
-    2034, 5004, 5716, 5972, 5972, 3302, 5972, 788, 5972, 5972, 125, 5972, 3047, 5972, 3142, 863, 4126, 4053, 145, 3721,
-    3995, 2397, 3134, 5972, 5972, 2368, 5972, 5972, 5972, 4943, 5972, 1018, 3458, 2200, 4582, 893, 2113, 673, 3365,
-    5406, 5499, 226, 4832, 4313, 363, 3007, 3971, 3841, 4368, 478, 1052, 5610, 5054, 3906, 2196, 3698, 5910, 791, 1093,
-    5972, 3218, 1862, 1907, 5972, 5972, 3194, 5972, 5972, 5972, 2535, 5972, 407, 5367, 5972, 4013, 252, 3088, 3778,
-    5972, 5972, 5972, 5972, 5972, 5680, 5551, 5972, 1885, 5972, 5972, 5972, 5972, 4755, 5972, 5972, 3528, 4421, 1480,
-    280, 281, 3798, 5748, 350, 3864, 5851, 4966, 548, 3520, 2663, 1676, 5920, 2944, 2227, 3420, 5358, 921, 505, 5972,
-    5972, 1531, 1215, 1285, 5972, 5972, 5972, 3324, 644, 256, 4743, 5972, 2220, 4656, 5972, 695, 5789, 3208, 262, 263,
-    1238, 3083, 4885, 3697, 3835, 5972, 5972, 5972, 5972, 5624, 1133, 180, 5049, 75, 705, 5418, 5972, 5972, 5972, 3441,
-    5972, 3673, 5649, 2235, 5972, 5972, 5972, 5972, 3494, 2764, 5972, 842, 5972, 5972, 5530, 1013, 2695, 1927, 426,
-    5203, 4584, 5972, 5972, 5972, 5972, 5972, 5972, 5972, 5972, 2925, 5039, 5972, 2130, 1718, 5972, 5972, 5627, 1135,
-    5972, 4645, 1359, 3210, 5972, 5972, 5972, 5972, 5972, 5972, 4344, 3146, 654, 5972, 5972, 5972, 1707, 1849, 2003,
-    5549, 3591, 861, 5242, 5972, 4554, 4555, 4131, 5972, 5972, 5956, 1593, 1820, 4674, 5972, 2536, 1299, 4144, 2681,
-    5972, 3385, 5447, 2862, 5972, 2285, 3423, 346, 5792, 5522, 4744, 2409, 1771, 4028, 3120, 3311, 5014, 550, 2059,
-    4772, 2035, 3073, 864, 2137, 5462, 4250, 1026, 5972, 5972, 633, 5909, 3128, 219, 220, 2447, 1624, 2672, 2783, 2503,
-    5063, 3212, 5408, 3599, 1592, 1900, 4152, 4878, 2302, 4941, 4328, 5972, 2601, 2570, 5690, 410, 5757, 1244, 2143,
-    5719, 5780, 3639, 781, 2637, 4027, 3017, 1638, 2508, 3394, 2600, 643, 3191, 1329, 1579, 4670, 204, 4929, 123, 5972,
-    5972, 5972, 5781, 5972, 4814, 3932, 4512, 1194, 4896, 1379, 3628, 2407, 4322, 2731, 4506, 5477, 2797, 5972, 384,
-    5972, 5972, 5972, 5972, 5972, 2633, 5972, 5972, 5972, 5972, 5972, 966, 5972, 1138, 1426, 5972, 5972, 978, 872, 5972,
-    4425, 1833, 4426, 5972, 768, 5972, 2668, 4189, 2842, 3701, 5972, 5972, 5972, 1894, 5972, 5972, 3988, 5972, 1242,
-    2786, 5972, 5972, 5972, 5972, 1841, 4588, 5972, 5972, 230, 231, 3900, 852, 5972, 4522, 5972, 5972, 5972, 3410, 1902,
-    2563, 5603, 4541, 5443, 5972, 787, 1834, 321, 322, 5112, 5113, 3433, 52, 1032, 4327, 1256, 3645, 4218, 5972, 3767,
-    5806, 3893, 5893, 3562, 3366, 4431, 4473, 5156, 1290, 4286, 3451, 4095, 5554, 4364, 54, 544, 4023, 790, 1055, 5458,
-    871, 4691, 5972, 5972, 5972, 5972, 5972, 5972, 5972, 4958, 5972, 5972, 3918, 2818, 5972, 5972, 3323, 5327, 1942,
-    5166, 2441, 3227, 5972, 1163, 5972, 4320, 3449, 4560, 5972, 5972, 392, 1397, 4879, 5972, 4440, 2756, 5972, 5972,
-    2808, 1691, 3919, 5972, 5972, 5972, 1913, 4934, 5972, 2470, 5972, 4171, 2820, 5972, 2451, 2675, 1754, 4414, 4718,
-    2490, 4214, 5972, 2074, 5972, 3413, 1934, 473, 3731, 611, 5972, 5422, 3563, 205, 671, 2016, 5375, 5265, 2721, 5972,
-    5972, 6, 7, 5972, 4998, 2942, 5582, 3630, 5972, 5972, 1297, 2225, 5972, 4944, 5165, 719, 941, 4123, 1462, 2493,
-    4921, 1683, 3811, 3996, 1538, 3381, 3382, 3447, 4502, 3286, 399, 1813, 1855, 5783, 5386, 4017, 327, 3160, 3162,
-    3163, 3008, 2391, 2558, 521, 4947, 689, 4365, 3782, 3274, 1729, 2364, 1156, 1143, 5132, 1, 5972, 1809, 3237, 5972,
-    651, 5972, 5972, 1486, 5972, 4453, 2704, 2830, 3934, 1787, 5972, 5972, 5972, 1076, 5823, 4603, 1190, 1508, 3026,
-    1996, 1137, 2274, 5972, 5972, 5972, 5972, 5972, 5972, 1442, 5972, 3093, 5972, 933, 832, 5972, 5972, 1457, 5972,
-    5972, 5972, 5972, 5746, 3231, 1935, 4952, 3912, 5236, 5972, 2188, 5609, 5491, 499, 5253, 1637, 2922, 5424, 4197,
-    5972, 4642, 5972, 5972, 2896, 3665, 5972, 5972, 5972, 5972, 5972, 4312, 5972, 3257, 5972, 5972, 5972, 5972, 5972,
-    1263, 2587, 5877, 1607, 2088, 250, 5972, 3137, 5972, 5972, 5972, 5972, 5972, 5972, 5972, 1228, 5972, 257, 5670,
-    1745, 488, 2194, 5972, 5521, 2377, 5972, 5972, 5058, 3580, 4229, 5834, 3684, 1002, 3181, 1197, 2671, 5972, 5972,
-    5972, 5972, 1700, 661, 618, 3018, 2778, 5442, 4668, 4258, 4945, 4549, 1875, 5446, 5884, 77, 1300, 1604, 1385, 4071,
-    5739, 5426, 4067, 5972, 5972, 4893, 5972, 5972, 5972, 5972, 3333, 5972, 5972, 2385, 2442, 5972, 5972, 3335, 5024,
-    2923, 5210, 5972, 5972, 5972, 5972, 5972, 5972, 5972, 5972, 5972, 5972, 4612, 287, 288, 549, 5798, 1546, 1077, 4345,
-    464, 1550, 1374, 1424, 1425, 1937, 3779, 79, 249, 421, 4263, 171, 2576, 3078, 266, 3489, 5214, 2717, 172, 3993,
-    1696, 1623, 5574, 2052, 2732, 2779, 2132, 2149, 2080, 142, 3776, 4172, 4481, 5972, 5972, 5713, 5859, 5972, 5972,
-    5972, 5972, 5598, 5347, 433, 4170, 1252, 1175, 4730, 5972, 1286, 1319, 1364, 4910, 1545, 1067, 2945, 439, 5972,
-    3288, 5972, 5972, 258, 259, 1087, 5972, 5020, 3043, 3478, 5972, 5972, 5972, 5965, 5972, 1125, 5972, 5972, 5972, 367,
-    5623, 5764, 5972, 5972, 4649, 4741, 5972, 3055, 3815, 1493, 4254, 5832, 4997, 2310, 4870, 5972, 5972, 5972, 5972,
-    5972, 1877, 2047, 2702, 5972, 5972, 5972, 2486, 996, 4931, 835, 5890, 5248, 1625, 4157, 3187, 3184, 5972, 5972,
-    5972, 3431, 5256, 223, 1219, 309, 310, 232, 1677, 233, 3850, 5350, 682, 2162, 3079, 813, 2719, 5972, 5972, 5972,
-    2858, 2202, 5972, 5972, 1058, 4660, 2293, 5057, 4499, 2930, 4388, 5091, 5033, 147, 3565, 5208, 5515, 2068, 343,
-    5080, 3781, 5168, 5972, 5972, 227, 228, 1017, 5972, 545, 4617, 1772, 5478, 4260, 5972, 3884, 5972, 4007, 5972, 5972,
-    5972, 5972, 2653, 5972, 5972, 4393, 4897, 1504, 4211, 4212, 3604, 739, 1502, 1751, 2307, 3977, 5972, 3851, 5972,
-    2032, 4937, 764, 5972, 5972, 5972, 366, 980, 5718, 4980, 3863, 5804, 5972, 5972, 5972, 416, 5972, 5972, 5972, 5972,
-    3616, 5972, 4569, 434, 4811, 4673, 963, 4991, 5361, 2121, 140, 160, 4444, 523, 1288, 2498, 5972, 5972, 5972, 5439,
-    5459, 2824, 5695, 1815, 4078, 4627, 3842, 5876, 858, 40, 41, 3482, 2829, 175, 3968, 80, 5856, 3224, 3108, 4085,
-    5972, 5972, 670, 1028, 382, 1693, 4468, 5972, 5801, 5972, 4165, 5972, 1494, 5972, 947, 5972, 5972, 4090, 5972, 5972,
-    1977, 4228, 5241, 3072, 2376, 4899, 3025, 2673, 4338, 5867, 538, 4890, 5645, 3910, 2359, 121, 5675, 5943, 722, 4819,
-    4376, 3039, 3881, 5428, 5972, 199, 5972, 2452, 2004, 1899, 2550, 5972, 1702, 1139, 3290, 2850, 5115, 1958, 3111,
-    506, 3597, 668, 3222, 3261, 1803, 5730, 5398, 2432, 847, 3713, 5534, 369, 5972, 2542, 3878, 5907, 5972, 486, 5972,
-    2500, 4010, 1209, 501, 5972, 5972, 5972, 4300, 2372, 594, 5139, 4337, 5972, 5972, 5848, 2266, 3062, 5972, 5972,
-    4984, 5972, 3065, 1099, 5972, 5860, 5306, 2240, 5972, 2327, 5972, 4106, 3724, 3610, 3391, 5520, 3098, 5435, 4913,
-    4995, 5972, 5972, 5972, 333, 2146, 4868, 3904, 2318, 2750, 197, 5972, 5972, 5190, 2898, 2268, 5198, 3738, 3784,
-    3760, 5972, 4810, 5972, 4806, 62, 5102, 2358, 2594, 1837, 1412, 1415, 5972, 5972, 1491, 475, 3216, 2569, 4366, 4689,
-    3958, 4105, 3806, 2886, 3044, 3119, 201, 5972, 1115, 2348, 5972, 1684, 2319, 5972, 2507, 275, 5972, 5972, 5972,
-    3465, 5972, 5972, 5972, 5972, 5972, 3347, 703, 5613, 5972, 5972, 5972, 1925, 3488, 5972, 5972, 5972, 5972, 5972,
-    4183, 1227, 800, 3188, 4230, 5632, 3691, 5972, 5972, 1383, 1398, 1382, 5972, 5972, 5972, 5972, 276, 277, 1641, 5972,
-    5972, 2931, 606, 3869, 3891, 1357, 1444, 3179, 5223, 5972, 5972, 5972, 5972, 3369, 2247, 5972, 3720, 3569, 5972,
-    2054, 5972, 5972, 5972, 4587, 3803, 2706, 5972, 5972, 5972, 2985, 1636, 5281, 1408, 5972, 5972, 2714, 1950, 5972,
-    5038, 5588, 5692, 3215, 2208, 5972, 5972, 5972, 808, 3408, 3598, 248, 3439, 5186, 5972, 5972, 242, 243, 5972, 5972,
-    1539, 1955, 4018, 3509, 5972, 3540, 4037, 1890, 5947, 4559, 707, 708, 4402, 5177, 677, 647, 2176, 5972, 5972, 5972,
-    2373, 5972, 5972, 3632, 108, 4494, 5972, 1283, 2712, 2155, 1129, 1402, 5972, 3498, 5885, 607, 4003, 3773, 555, 1551,
-    4820, 3243, 5972, 5972, 3148, 5972, 5288, 5972, 5972, 5972, 3763, 5972, 5972, 1759, 4234, 5972, 5212, 4697, 5972,
-    5658, 5511, 5972, 5972, 4699, 5621, 5972, 5972, 5972, 5972, 5972, 1842, 681, 5461, 5972, 5972, 5972, 5972, 4298,
-    1854, 3543, 3544, 1273, 2986, 5349, 165, 3727, 5972, 2874, 4537, 3152, 5972, 3174, 2369, 5972, 1518, 3306, 3596,
-    5158, 1860, 5159, 3549, 5901, 354, 2197, 2210, 4063, 3338, 2995, 2336, 5320, 5972, 4011, 4107, 4873, 5972, 4331,
-    4629, 3041, 5604, 4186, 3551, 2772, 5972, 5413, 2312, 3315, 1519, 5972, 1292, 2661, 2248, 2261, 1268, 2275, 3742,
-    4757, 5393, 4935, 1337, 5972, 1033, 1102, 3643, 5972, 5972, 5972, 1564, 5972, 5972, 3956, 5972, 5972, 5972, 5972,
-    5556, 2578, 5536, 49, 5972, 5972, 5972, 1910, 4968, 5972, 5972, 2891, 571, 5972, 5972, 5972, 5655, 5972, 396, 2859,
-    5972, 5972, 4226, 5972, 5972, 5972, 2552, 5972, 513, 971, 5972, 5972, 5972, 5972, 5972, 5742, 5972, 2573, 4449,
-    3513, 731, 1403, 5972, 1120, 5286, 4521, 4778, 5605, 697, 1096, 4970, 460, 1634, 4854, 386, 3523, 725, 3262, 5972,
-    5972, 685, 881, 3270, 1265, 1195, 1050, 4917, 5972, 1587, 190, 5972, 693, 2250, 3476, 5972, 5972, 5972, 4967, 5972,
-    5972, 2426, 2430, 2956, 900, 5972, 2835, 1530, 4824, 4825, 4956, 1552, 5972, 5579, 4374, 1574, 2039, 5181, 2815,
-    2158, 4988, 3371, 4738, 2567, 2981, 5972, 4976, 5972, 5972, 5972, 5972, 5972, 1510, 4606, 5852, 3648, 3748, 5972,
-    657, 5334, 5354, 1591, 2807, 5972, 5972, 5972, 5972, 4807, 827, 3962, 2606, 5480, 4454, 5292, 5800, 5373, 5772,
-    2009, 3255, 2781, 5438, 3926, 3075, 5972, 4021, 1308, 1904, 5972, 3195, 3442, 5972, 1476, 5972, 5972, 5972, 5773,
-    5972, 5272, 5273, 5972, 5573, 4831, 2964, 4918, 5972, 5972, 2697, 5972, 5857, 5972, 5972, 4256, 1911, 5972, 4051,
-    3143, 5023, 5064, 859, 5972, 5803, 4015, 3750, 1946, 1773, 1933, 212, 5629, 5387, 5819, 4288, 4050, 4005, 4795,
-    2365, 1140, 2051, 1203, 2963, 5360, 3954, 1366, 4429, 3789, 5972, 4225, 5972, 2186, 943, 5487, 198, 5972, 2539,
-    1791, 1236, 4538, 5972, 1664, 5972, 5972, 5972, 5972, 5972, 5427, 3440, 5527, 5972, 2982, 2757, 5972, 2083, 1400,
-    1062, 4396, 4305, 2678, 4155, 3998, 4618, 1731, 451, 4411, 3378, 3246, 91, 4969, 5687, 2669, 144, 5972, 5972, 1416,
-    3865, 3764, 5972, 131, 1717, 4490, 3376, 4434, 3690, 5972, 5972, 4410, 4789, 3005, 1078, 5972, 1853, 5972, 3584,
-    5960, 3772, 918, 2077, 5972, 1422, 942, 4075, 4357, 2081, 2876, 5972, 762, 4445, 1863, 5701, 4458, 532, 4489, 569,
-    3564, 3799, 621, 5490, 5328, 3081, 5409, 5494, 5180, 2693, 5564, 5053, 2153, 1081, 1173, 4752, 1388, 2758, 1144,
-    1951, 4240, 4845, 5972, 2288, 4227, 5500, 5502, 2476, 5972, 5972, 5972, 857, 5972, 3348, 4847, 1497, 480, 3909,
-    2389, 5972, 5972, 5972, 5972, 5972, 5972, 2061, 5972, 5972, 5972, 5972, 5972, 5972, 428, 5972, 5972, 1331, 5972,
-    5972, 5351, 5972, 2501, 3964, 2352, 1994, 1523, 4563, 4564, 906, 3340, 2556, 3902, 4101, 1776, 347, 3879, 5972,
-    3794, 5972, 5972, 5972, 5765, 4685, 2566, 5233, 5234, 1432, 4525, 4837, 442, 848, 853, 5972, 5882, 3009, 1979, 5708,
-    2117, 5972, 5972, 5972, 5266, 5267, 5085, 2988, 2324, 5972, 2583, 5972, 269, 5394, 270, 411, 3436, 182, 4607, 5972,
-    5045, 5972, 5972, 5972, 5972, 3370, 5972, 1563, 5972, 5972, 5972, 3022, 5539, 4705, 2518, 4701, 990, 4690, 5972,
-    5972, 5972, 3887, 5972, 4467, 4014, 5037, 5880, 5972, 5972, 5972, 474, 5954, 5469, 5972, 5799, 1060, 2280, 5972,
-    1921, 5972, 5586, 2036, 5465, 1582, 605, 773, 815, 1998, 5193, 2787, 1161, 4637, 3341, 1152, 3460, 2729, 4666, 4702,
-    4957, 5972, 5081, 5972, 5972, 5972, 5972, 5972, 5939, 2990, 5972, 5972, 5972, 1928, 824, 5972, 5230, 5, 5972, 5972,
-    5972, 1901, 756, 5126, 1413, 5972, 998, 5395, 789, 595, 2715, 4349, 3560, 2877, 5137, 2292, 4382, 5972, 5972, 2529,
-    5471, 5972, 5972, 5972, 4513, 5069, 2112, 5972, 2686, 732, 3479, 2134, 1063, 4848, 5972, 2012, 5972, 5972, 3318,
-    1967, 3230, 5972, 5972, 2979, 5972, 5972, 5972, 514, 5972, 1196, 307, 308, 5345, 3530, 2345, 5785, 696, 4936, 4880,
-    5972, 2411, 5972, 5972, 5972, 5972, 5972, 5972, 5972, 3762, 5972, 5972, 5972, 5296, 5432, 3502, 770, 1440, 5972,
-    2597, 4096, 5972, 1681, 12, 5580, 13, 311, 312, 4081, 4842, 5362, 103, 713, 5972, 4041, 5797, 5972, 3485, 5972,
-    5972, 3686, 2527, 2060, 3469, 1324, 5972, 4862, 981, 4360, 5972, 5972, 5972, 908, 3258, 5972, 5972, 1492, 5972,
-    5972, 4303, 5972, 5388, 5972, 5972, 5972, 5972, 5972, 2203, 782, 5740, 1229, 5972, 5972, 5972, 5068, 5972, 5972,
-    5280, 5972, 2810, 2172, 5972, 1843, 5972, 896, 5972, 5972, 5972, 3172, 4567, 4891, 4113, 5972, 5972, 5972, 5972,
-    5972, 5972, 1261, 5078, 2099, 2679, 2159, 2588, 2018, 5972, 1789, 4658, 2939, 5972, 5243, 352, 5972, 5431, 1603,
-    4983, 5257, 5972, 5972, 3497, 3858, 5972, 3415, 2330, 5972, 5972, 4792, 5972, 5972, 5972, 5972, 5972, 5972, 4677,
-    5972, 4031, 4000, 5972, 5972, 3871, 3678, 5972, 2444, 5855, 4074, 4455, 841, 3775, 4750, 4029, 5972, 5972, 406,
-    4304, 1169, 134, 3140, 3131, 5972, 982, 3471, 1069, 3493, 5106, 910, 5497, 5079, 5710, 5400, 5172, 4737, 5972, 4654,
-    5182, 2239, 5331, 5972, 1185, 5317, 1199, 1620, 3351, 2184, 4614, 5972, 5972, 5972, 2575, 3733, 5972, 425, 4330,
-    1972, 1404, 4894, 4060, 5919, 5972, 5972, 1211, 5972, 5972, 5972, 5972, 5972, 3285, 1016, 1571, 3349, 1473, 3276,
-    889, 3095, 3813, 4853, 2123, 4754, 5972, 1012, 4194, 5972, 5972, 5972, 5972, 3506, 5972, 1553, 462, 5972, 5972,
-    5972, 1671, 5391, 3960, 3209, 929, 701, 2618, 2339, 3317, 1141, 4319, 169, 5972, 972, 5881, 5104, 5105, 5348, 4553,
-    580, 5892, 4436, 4437, 4438, 1275, 4938, 2799, 2167, 1713, 161, 5450, 5972, 5972, 1064, 1269, 4508, 5727, 5972,
-    5378, 355, 2301, 5972, 5972, 2396, 5972, 5972, 5972, 3942, 5972, 5972, 5972, 387, 5825, 5972, 2574, 5972, 5972,
-    4315, 1467, 5972, 3491, 5136, 2412, 1818, 4924, 5972, 4981, 5128, 496, 3515, 3426, 1465, 1369, 2478, 4565, 3023,
-    1000, 615, 4816, 836, 5972, 4604, 540, 1893, 2658, 1037, 378, 444, 3908, 55, 3965, 1048, 3552, 1004, 3001, 1537,
-    4974, 3834, 1378, 810, 953, 3801, 2970, 1434, 278, 279, 5363, 3397, 5698, 2843, 4205, 5972, 961, 560, 2682, 5972,
-    450, 3429, 5972, 4688, 5972, 1560, 5972, 5972, 5972, 2630, 2390, 1025, 5972, 3045, 5972, 5972, 3656, 5141, 492, 476,
-    1469, 111, 5972, 5972, 5972, 5972, 5972, 2299, 4049, 5872, 3144, 5774, 4202, 1888, 4295, 332, 2400, 1008, 3196,
-    4625, 4626, 1678, 3339, 5299, 2031, 2648, 5382, 2689, 4390, 2745, 4064, 2899, 758, 4291, 148, 4140, 5972, 5972,
-    5972, 5972, 5972, 4827, 4391, 3527, 4164, 5972, 5972, 2340, 5972, 5972, 4057, 3572, 4278, 5316, 2355, 5576, 4836,
-    3914, 709, 430, 2079, 2902, 4846, 2316, 2629, 1168, 5911, 5972, 1660, 5972, 2687, 5972, 649, 5972, 5972, 3117, 1685,
-    5972, 5972, 5972, 5972, 5813, 4373, 3158, 1339, 1599, 5217, 5047, 2544, 5346, 3847, 1221, 2711, 4033, 1739, 1272,
-    2881, 3470, 1068, 483, 5972, 5940, 5389, 512, 5972, 3582, 2438, 1610, 128, 4133, 4504, 1938, 2000, 4946, 4732, 1628,
-    3176, 4412, 5972, 5972, 4865, 3754, 5972, 5972, 5972, 4535, 5972, 5972, 5571, 5972, 934, 1986, 5972, 805, 3395,
-    3089, 2191, 928, 2770, 741, 870, 5468, 1278, 5972, 1735, 5972, 5972, 5972, 4124, 2440, 5972, 5972, 3126, 785, 1525,
-    3771, 5972, 767, 5972, 866, 1059, 5771, 5972, 3666, 2801, 572, 1232, 66, 5972, 997, 3123, 597, 2166, 5972, 3492,
-    3249, 3487, 5972, 5684, 5972, 2709, 5436, 1186, 5972, 5972, 4248, 2393, 5972, 5972, 5972, 5972, 2024, 5585, 2790,
-    477, 5972, 2604, 5972, 4753, 1061, 4590, 4591, 326, 383, 3824, 1224, 4850, 1830, 4482, 2087, 3220, 2869, 553, 1479,
-    5505, 3611, 4134, 1353, 1216, 78, 5119, 4326, 5972, 5972, 1271, 1027, 1762, 5066, 2383, 3804, 4428, 4573, 4574,
-    2306, 173, 3472, 32, 33, 2328, 1794, 2092, 2684, 2864, 3706, 3749, 4774, 880, 3948, 5205, 5972, 4751, 5972, 5555,
-    3676, 4973, 5972, 5972, 4704, 5972, 5972, 5972, 5972, 5972, 5972, 5972, 5972, 5668, 5972, 1191, 1475, 4392, 5972,
-    5972, 5972, 1852, 710, 711, 4435, 4334, 4712, 3295, 1210, 721, 5558, 2941, 2980, 4139, 107, 359, 5330, 4210, 5972,
-    3345, 5972, 1148, 1149, 4501, 5963, 5972, 5972, 5972, 3411, 5972, 5972, 5972, 2726, 418, 1668, 3757, 5972, 793,
-    3068, 986, 2181, 3702, 5100, 5101, 5493, 5278, 5279, 5495, 1456, 97, 5972, 2692, 1459, 5972, 887, 5972, 5972, 5972,
-    5972, 2734, 4179, 5972, 3099, 2028, 547, 2053, 3930, 3300, 2909, 2751, 3883, 5972, 5972, 273, 5594, 274, 5743, 5795,
-    3310, 3953, 5600, 1146, 2106, 623, 5972, 5972, 2699, 1136, 675, 5972, 2037, 2467, 5008, 1651, 646, 4852, 5972, 2589,
-    498, 1655, 3857, 4498, 2262, 4692, 4544, 1774, 2374, 1043, 3164, 5972, 2621, 4601, 4417, 5972, 5972, 3929, 1446,
-    5972, 5972, 4914, 1372, 1755, 2168, 2586, 4043, 4747, 5972, 5972, 1145, 2303, 5121, 4736, 5972, 5972, 5972, 5972,
-    5972, 5972, 5972, 5473, 5972, 3268, 5972, 4246, 5484, 5949, 1073, 5824, 944, 5012, 4953, 4869, 1705, 2849, 4528,
-    3427, 2959, 3705, 737, 3836, 799, 5972, 5972, 5972, 2228, 5972, 2957, 5972, 4221, 3024, 5972, 5972, 5925, 2338,
-    4717, 5972, 825, 5972, 5074, 579, 2309, 1513, 2599, 5107, 5972, 4299, 5972, 5972, 5972, 5972, 5972, 5972, 5972,
-    3417, 5972, 5972, 5972, 5972, 5440, 5972, 5972, 5972, 5972, 4102, 4038, 5972, 5972, 1090, 5972, 5972, 1089, 5972,
-    3659, 4972, 4147, 5972, 5972, 1387, 1343, 5972, 5972, 5972, 5972, 1566, 519, 5379, 5377, 1255, 2398, 3943, 5775,
-    365, 5146, 5147, 3936, 4485, 5333, 1171, 1810, 3116, 2989, 4404, 4274, 613, 4261, 2749, 3122, 2873, 2894, 5040,
-    5969, 5972, 5972, 5972, 5972, 5972, 5589, 5972, 3241, 5972, 5269, 5270, 5368, 3570, 5972, 4561, 1903, 4562, 5239,
-    5240, 3505, 2650, 4551, 5015, 5972, 5972, 2607, 1543, 1488, 589, 4243, 1896, 3839, 3165, 5578, 5972, 5782, 2011,
-    5108, 5972, 5542, 5676, 4620, 1966, 2636, 5972, 1405, 3059, 5972, 4939, 5972, 4271, 5003, 5972, 3997, 4621, 5277,
-    5972, 5972, 2025, 1898, 585, 5258, 1871, 3425, 3499, 4804, 1330, 2170, 3388, 3389, 1201, 3214, 2091, 2244, 4153,
-    5314, 5972, 5972, 5972, 5972, 5871, 4761, 5972, 4370, 5523, 5972, 5972, 5972, 5972, 5972, 5972, 5972, 5972, 5972,
-    5972, 5972, 2226, 427, 3322, 1962, 5622, 5643, 2934, 2104, 2497, 5453, 4216, 1314, 5972, 5972, 5972, 5972, 1879,
-    5972, 5550, 3873, 4511, 4644, 1768, 1589, 728, 3294, 5535, 5972, 5222, 5972, 5972, 5972, 5972, 5972, 5972, 3522,
-    3251, 4192, 3825, 4099, 1274, 1975, 4849, 4787, 5768, 1358, 5972, 1726, 3461, 1212, 3594, 2885, 4045, 5642, 5847,
-    5036, 4683, 5414, 2854, 3601, 1474, 2163, 1878, 3346, 2534, 5902, 4276, 3593, 5318, 3309, 5858, 748, 193, 5971,
-    3574, 3067, 5972, 2596, 2968, 1687, 1147, 4872, 5972, 2947, 5109, 783, 5972, 5972, 1931, 2519, 5681, 449, 2344,
-    4358, 5685, 2229, 1522, 5583, 4130, 5972, 3937, 2145, 2585, 845, 26, 3046, 27, 3535, 1350, 5619, 1666, 1435, 1184,
-    210, 3084, 1699, 5188, 5189, 5894, 4594, 830, 2626, 4363, 5926, 441, 1484, 2067, 2150, 2105, 14, 15, 3242, 4619,
-    5972, 5083, 3121, 5962, 5672, 4706, 2151, 5046, 1198, 3753, 817, 3923, 5972, 5972, 4287, 4409, 64, 1807, 1633, 5123,
-    1798, 742, 994, 3636, 1944, 1360, 1117, 3386, 3387, 3843, 4576, 838, 687, 2812, 2832, 2136, 5904, 159, 3987, 4336,
-    5921, 16, 17, 1345, 72, 113, 684, 1779, 3657, 4204, 5972, 5972, 4483, 5972, 5972, 5912, 5972, 5972, 5972, 1800,
-    5972, 3264, 5972, 5972, 5972, 5972, 5972, 5972, 1648, 5972, 2495, 4185, 3139, 10, 11, 2001, 3473, 5089, 4922, 2655,
-    2805, 5972, 5972, 5972, 5972, 5972, 5972, 5972, 5972, 1070, 5972, 4800, 1891, 5663, 4480, 5972, 5945, 4858, 1657,
-    4920, 3056, 899, 5972, 2841, 5733, 2725, 2722, 5776, 5972, 5415, 5050, 2747, 2479, 1588, 567, 2950, 5972, 5062,
-    1213, 5972, 5972, 5972, 5972, 5972, 5972, 4422, 5972, 3430, 4059, 4919, 4362, 3474, 86, 5531, 5090, 1249, 3416, 141,
-    5972, 5972, 3899, 3728, 5972, 3959, 5972, 5972, 1448, 5972, 894, 1757, 5972, 5972, 1544, 2888, 814, 5972, 1778,
-    5972, 5972, 5972, 2948, 1673, 3082, 1266, 4556, 4557, 3206, 1499, 1507, 3848, 2356, 1964, 3193, 2833, 5667, 5817,
-    3774, 3028, 3372, 4679, 4592, 3203, 5194, 3633, 5845, 2494, 4247, 2429, 4735, 4026, 5972, 2845, 926, 806, 2733,
-    4195, 5972, 5972, 2320, 3553, 5410, 1529, 349, 5749, 1231, 628, 1342, 1965, 1226, 1613, 4389, 5209, 2282, 5972,
-    5972, 5972, 5972, 1909, 5868, 3976, 5972, 2737, 3050, 5972, 5972, 2116, 5972, 5972, 5972, 3816, 2178, 5972, 5972,
-    5972, 5972, 5972, 5915, 4269, 3130, 2895, 2469, 137, 1237, 5972, 4318, 4766, 5216, 520, 855, 5972, 5972, 5972, 1932,
-    3367, 2538, 5031, 3915, 5972, 5972, 1939, 5793, 5897, 4871, 1821, 3796, 5612, 5972, 295, 5972, 1769, 3575, 5972,
-    5133, 3296, 4771, 4296, 5972, 5972, 5972, 335, 4571, 5532, 4054, 2422, 2666, 4803, 5938, 531, 5076, 4400, 3867,
-    5972, 3153, 423, 3949, 5421, 413, 260, 5665, 1200, 5972, 5972, 5972, 5972, 5972, 882, 362, 1105, 5972, 5972, 5972,
-    5972, 5972, 5972, 5972, 2231, 5972, 90, 2656, 1658, 5850, 5972, 3097, 4742, 736, 3235, 5972, 5972, 5972, 132, 4632,
-    5972, 763, 1864, 5699, 3681, 2242, 5972, 5371, 4477, 2991, 2135, 2258, 5972, 1644, 5972, 2676, 2517, 4577, 4578,
-    1010, 5374, 394, 3542, 3546, 53, 892, 1234, 1573, 4198, 5972, 5972, 5972, 5972, 5972, 5972, 5972, 437, 5150, 635,
-    4843, 5950, 4516, 3301, 484, 3021, 2425, 640, 656, 2287, 4602, 1961, 4201, 5441, 1460, 5972, 5972, 2806, 495, 1498,
-    5972, 5972, 5972, 381, 3343, 3907, 2643, 3279, 5344, 1640, 1805, 4959, 5972, 5972, 5972, 5972, 3112, 3634, 4698,
-    5129, 2437, 4999, 5972, 4282, 447, 3269, 2555, 5507, 5924, 1277, 5352, 2323, 2875, 5714, 2095, 4539, 1827, 1922,
-    5301, 5302, 4993, 377, 2840, 2694, 2221, 2659, 4279, 2480, 2634, 3437, 400, 5590, 1466, 267, 2999, 811, 1960, 46,
-    47, 3329, 2541, 4844, 2237, 2295, 3352, 3970, 1396, 1838, 1045, 807, 5972, 2346, 5972, 5972, 5972, 5972, 4722, 2937,
-    5430, 4608, 3679, 1470, 4672, 2827, 376, 3840, 5972, 5972, 5972, 2297, 2571, 4380, 4062, 2993, 1746, 192, 4174,
-    5972, 5215, 5972, 5972, 5543, 5972, 2263, 3456, 5700, 5972, 3802, 1649, 4877, 5972, 5972, 5538, 5972, 5972, 5972,
-    5972, 3955, 954, 1177, 5972, 3911, 5972, 5972, 1482, 3189, 3180, 599, 3454, 5051, 1468, 4353, 5211, 938, 3637, 339,
-    1222, 1189, 1495, 4472, 5340, 4442, 1989, 5225, 2401, 3006, 3253, 5093, 5972, 704, 5972, 2915, 5874, 5972, 5972,
-    5972, 5972, 4406, 2361, 154, 1978, 1501, 1730, 3663, 2392, 4961, 2173, 5972, 338, 264, 5972, 5972, 5972, 5972, 5972,
-    2617, 5972, 5972, 5972, 1744, 1832, 1038, 4646, 4117, 3299, 655, 5972, 5972, 5972, 5972, 1109, 1110, 5617, 3626,
-    3660, 4056, 2762, 5972, 5972, 3952, 5297, 5972, 5972, 2387, 5219, 5972, 5972, 5972, 2029, 5116, 5117, 930, 1351,
-    4004, 2180, 5417, 452, 3961, 4675, 5466, 4173, 4583, 2223, 5972, 1704, 4546, 3481, 5895, 1281, 2614, 95, 4749, 5972,
-    5972, 2394, 5972, 5972, 5955, 4424, 3517, 2856, 2313, 692, 5972, 2613, 2513, 3178, 5336, 1042, 4415, 4281, 919, 511,
-    1971, 1577, 2680, 4856, 3190, 1549, 1828, 948, 1817, 340, 3356, 422, 3496, 4076, 5900, 2998, 293, 294, 3030, 2378,
-    3289, 4687, 1254, 2211, 2305, 2703, 174, 5972, 2073, 5972, 4461, 2917, 5972, 5972, 4855, 5972, 5972, 5972, 5602,
-    4002, 4519, 5972, 1856, 3035, 5972, 714, 641, 5972, 5786, 5972, 5972, 5972, 5972, 5972, 5972, 5972, 1826, 5972,
-    5972, 5972, 1618, 4162, 875, 4907, 5796, 5972, 5972, 3259, 2593, 3975, 960, 5972, 1919, 5030, 5972, 5972, 5972,
-    5972, 5972, 5972, 3501, 2635, 402, 4264, 5397, 5758, 1031, 4275, 3113, 2423, 3232, 4518, 576, 5972, 5972, 5972,
-    5972, 2157, 5972, 4294, 5972, 1368, 3534, 4703, 1352, 189, 5972, 5972, 5972, 5972, 5972, 5972, 4623, 4624, 5972,
-    3507, 5726, 3450, 5810, 5721, 3556, 4251, 3809, 4072, 2333, 5972, 4268, 5972, 2551, 552, 5972, 5972, 1982, 5972,
-    5972, 5972, 1734, 831, 3486, 5972, 5972, 5972, 481, 5972, 5972, 5972, 5972, 3624, 573, 5250, 1464, 3010, 3337, 5009,
-    5972, 5972, 5972, 5972, 2958, 4471, 5972, 660, 5972, 5972, 3514, 5729, 5341, 4809, 5972, 5972, 5972, 5972, 1940,
-    215, 1808, 3495, 3558, 903, 5972, 4545, 375, 5972, 1659, 5353, 2133, 2246, 5972, 5972, 5972, 5972, 3402, 3037, 2582,
-    1866, 563, 2142, 370, 4719, 5972, 5972, 5972, 5237, 5972, 5972, 4441, 5641, 5565, 3421, 3940, 5972, 2543, 1046,
-    1021, 3541, 2379, 5028, 5688, 2487, 3807, 2005, 5130, 3817, 3186, 5972, 5972, 566, 5581, 5972, 5972, 5972, 5972,
-    5972, 5972, 5972, 5429, 4782, 669, 1643, 3236, 5972, 5972, 5972, 658, 4524, 3903, 5324, 136, 5972, 5972, 5972, 5972,
-    5972, 5972, 5972, 5972, 1516, 1512, 1421, 3141, 2335, 2720, 5854, 3405, 4784, 5972, 1561, 2343, 2549, 5972, 2887,
-    166, 3278, 2954, 5309, 4509, 143, 3682, 5376, 1559, 1646, 101, 5972, 3325, 59, 5972, 5972, 3545, 3568, 5906, 1784,
-    5587, 3833, 5972, 5972, 1119, 3561, 2645, 3138, 920, 5972, 543, 4120, 5830, 1767, 1253, 2325, 2973, 3787, 5972,
-    3589, 686, 3328, 5972, 4777, 4901, 3167, 5972, 2347, 5972, 4770, 4367, 5300, 2096, 1857, 5972, 5972, 5972, 2118,
-    5972, 3614, 3723, 5888, 5972, 1452, 3475, 5972, 5972, 5972, 648, 1929, 1107, 1108, 5972, 5841, 1134, 5630, 3846,
-    2375, 1786, 4739, 5455, 1390, 4790, 5972, 5972, 1298, 5972, 3590, 747, 5972, 1645, 5640, 1556, 4255, 3537, 5815,
-    3951, 5221, 2837, 2867, 1041, 1662, 2946, 4310, 4239, 744, 727, 5972, 5972, 2427, 2883, 5972, 4818, 5972, 5235,
-    3793, 3810, 4906, 4068, 4815, 1941, 5972, 5972, 5972, 2449, 5972, 1436, 5972, 3888, 5972, 1970, 5972, 206, 207,
-    5927, 4669, 700, 3114, 2049, 3503, 5812, 1220, 3392, 645, 178, 5972, 4756, 5972, 5972, 28, 29, 604, 5683, 5972,
-    2978, 2611, 849, 5972, 117, 4659, 2700, 5972, 5972, 2380, 3627, 5972, 778, 1848, 135, 5809, 5723, 3326, 3662, 5711,
-    5972, 5972, 5972, 5972, 5972, 5972, 5972, 5972, 3, 854, 5972, 5972, 1065, 5972, 5972, 5972, 5972, 2388, 3305, 5972,
-    601, 1289, 4908, 1756, 3982, 931, 504, 4813, 3508, 302, 303, 4233, 3898, 949, 3060, 901, 517, 2458, 4297, 4892, 638,
-    2094, 4175, 3443, 4262, 1585, 2190, 5972, 5972, 5972, 4595, 5972, 5972, 5972, 5972, 5972, 5648, 3280, 3398, 2492,
-    5829, 1104, 4127, 2776, 3217, 2063, 3986, 1409, 5572, 680, 3790, 5308, 181, 4783, 1395, 3057, 2852, 3989, 5599,
-    5666, 8, 4097, 879, 1824, 1084, 4452, 5591, 9, 216, 5905, 634, 5510, 4493, 4317, 5972, 5972, 5972, 5972, 5972, 1303,
-    5972, 5972, 5972, 1917, 1335, 5972, 5972, 356, 1019, 3500, 2020, 5682, 987, 5504, 2420, 2826, 4266, 2602, 3623,
-    4600, 3978, 3752, 5972, 5972, 5454, 3000, 4094, 4916, 4308, 5972, 4517, 4779, 2185, 5972, 5174, 3967, 1741, 3204,
-    186, 5972, 5763, 3314, 5972, 2654, 5972, 5972, 5972, 4309, 5401, 5972, 5972, 2386, 5972, 5972, 652, 2212, 562, 1098,
-    1377, 1333, 4746, 4398, 5032, 2920, 5972, 5972, 5972, 5492, 5972, 5972, 5972, 5972, 5972, 2023, 5247, 5972, 5005,
-    5082, 1381, 240, 1887, 241, 1051, 5022, 5818, 1602, 5065, 798, 2171, 539, 2241, 5972, 5972, 5972, 5972, 5972, 1370,
-    1205, 177, 4888, 983, 1708, 5972, 5972, 1080, 5972, 5972, 5972, 5972, 5972, 5972, 5972, 3822, 372, 5972, 5972, 3358,
-    2861, 4781, 5972, 3963, 3708, 1165, 3635, 265, 5171, 5751, 3972, 1831, 5933, 5833, 542, 4903, 3042, 4964, 3550,
-    1323, 2816, 5218, 4874, 5972, 5972, 1309, 5972, 5972, 1478, 5339, 5404, 1621, 2222, 4180, 4196, 979, 2093, 5972,
-    5972, 2738, 2804, 2182, 5972, 5853, 229, 448, 5972, 2984, 3452, 1509, 3052, 3844, 2234, 4375, 2271, 5972, 5437,
-    5972, 5972, 5213, 1570, 2644, 3969, 3379, 1725, 5972, 5651, 5972, 3862, 5972, 4605, 2685, 5972, 5972, 5972, 5972,
-    5972, 5972, 5972, 3792, 2354, 3064, 5310, 898, 4325, 650, 5537, 5972, 3607, 4222, 5972, 535, 5972, 5972, 4671, 2710,
-    4611, 5972, 5972, 5972, 5972, 487, 5972, 5972, 5072, 5899, 5972, 2514, 5972, 5972, 5972, 5972, 5229, 5972, 5972,
-    4465, 236, 237, 2777, 2977, 5972, 61, 3536, 4734, 757, 5972, 5972, 5972, 4184, 4285, 3901, 5972, 2943, 5864, 1223,
-    5972, 2448, 4791, 5972, 5972, 5972, 2523, 4823, 120, 5972, 5972, 2062, 840, 2126, 5972, 5972, 5972, 4132, 5633,
-    4839, 5972, 5972, 5517, 5138, 5972, 5972, 5972, 2971, 5972, 5557, 3002, 5059, 5249, 5972, 5972, 5972, 5972, 1562,
-    5245, 5246, 1999, 2055, 2796, 888, 3173, 2554, 1626, 3618, 4708, 2892, 3586, 213, 5972, 5972, 5972, 5972, 2855,
-    4887, 5972, 939, 4125, 104, 2605, 724, 1153, 5972, 284, 5972, 5972, 5725, 5972, 3941, 2533, 895, 1732, 1801, 1218,
-    5732, 4797, 617, 138, 5972,
+    5991, 5991, 1578, 5991, 5481, 1631, 70, 5991, 1869, 5991, 5991, 639, 5991, 5611, 5991, 5991, 4778, 84, 5991, 5991,
+    3848, 5991, 5991, 1907, 3152, 742, 4584, 256, 2028, 257, 5727, 5711, 3110, 4835, 5896, 3139, 3017, 4496, 2796, 2256,
+    2352, 3226, 4633, 4634, 4008, 465, 263, 3688, 2122, 3529, 2823, 5664, 3824, 3650, 839, 5985, 5991, 2715, 4913, 118,
+    363, 5665, 3367, 5991, 5991, 5991, 3425, 5504, 5795, 1425, 4233, 5634, 4820, 3159, 3672, 3294, 2247, 3798, 3205,
+    5434, 680, 4749, 5991, 5991, 5991, 5991, 1570, 5991, 2015, 1001, 5493, 3069, 5672, 1194, 5991, 2955, 1742, 1766,
+    976, 2849, 2149, 2644, 1795, 89, 757, 2477, 2501, 4649, 512, 2073, 2707, 3984, 4133, 5245, 5246, 5382, 158, 160,
+    1081, 4881, 5991, 4997, 755, 4745, 5991, 969, 4369, 1452, 3486, 2133, 193, 124, 5991, 1115, 5991, 1465, 5991, 5991,
+    5991, 1582, 5646, 4654, 5417, 3154, 1261, 5991, 5991, 4973, 1569, 4544, 2485, 5991, 5802, 5826, 1348, 1794, 2066,
+    5073, 3274, 4814, 4893, 5991, 3322, 3366, 5991, 1382, 1278, 4368, 5991, 5991, 1723, 4060, 719, 2238, 4514, 1420,
+    4084, 5991, 5991, 5059, 5991, 3216, 5991, 1473, 2486, 111, 2614, 5024, 3250, 5991, 5991, 5991, 5991, 5991, 4844,
+    1598, 1872, 5005, 2653, 4361, 3507, 763, 2791, 5964, 434, 5401, 5853, 1608, 3266, 2513, 1453, 2566, 2770, 2047,
+    3015, 2895, 2634, 339, 5883, 994, 722, 4109, 2140, 590, 5861, 3622, 3353, 3657, 2143, 2508, 197, 73, 4487, 4083,
+    2579, 1597, 5238, 5430, 4200, 5991, 934, 5771, 5991, 2517, 2693, 211, 2328, 2586, 4267, 3888, 3999, 3118, 1087,
+    3938, 3377, 5325, 5991, 1330, 5991, 2618, 1641, 1899, 4661, 2549, 4351, 666, 5991, 5991, 5991, 972, 5991, 5991,
+    4758, 172, 253, 1955, 5991, 5991, 5991, 5991, 5770, 100, 3524, 1419, 343, 5991, 2156, 3762, 5991, 2456, 5991, 4275,
+    5880, 5991, 5991, 5991, 2916, 3180, 1585, 4364, 495, 1323, 2771, 5991, 1577, 4839, 1367, 5991, 4882, 676, 5025,
+    2459, 3835, 5214, 5215, 899, 1696, 1365, 2334, 828, 1825, 1965, 1416, 3035, 5633, 5580, 48, 2757, 5991, 1656, 5991,
+    5991, 2666, 4160, 30, 31, 5796, 5991, 3953, 1284, 2333, 5991, 631, 5375, 4948, 5991, 2221, 5991, 5991, 5991, 190,
+    3664, 2023, 3090, 736, 4817, 1507, 5595, 5374, 3286, 1586, 4413, 4565, 5991, 5991, 4040, 4679, 3611, 3645, 5991,
+    5991, 5991, 5991, 4560, 5991, 5991, 5991, 5636, 3402, 3858, 1125, 3307, 2593, 5779, 1491, 3172, 5887, 1312, 4533,
+    5503, 2336, 1801, 5035, 2487, 3275, 2407, 2802, 2903, 152, 5855, 5940, 598, 4329, 3833, 1105, 4058, 4711, 5991,
+    3675, 2923, 5991, 5991, 5991, 4969, 5991, 5991, 1669, 1296, 1259, 1721, 2654, 4054, 948, 5313, 302, 303, 4186, 1026,
+    2430, 2730, 4012, 685, 1479, 728, 3696, 4154, 5398, 1713, 306, 307, 4053, 4777, 3840, 2419, 2824, 3624, 5451, 112,
+    3470, 1763, 471, 2819, 3247, 2167, 3739, 4136, 247, 530, 580, 1253, 5163, 1523, 4419, 5991, 806, 5991, 5991, 2009,
+    5991, 2905, 5018, 2886, 626, 5991, 5991, 4024, 3612, 5281, 5991, 391, 5991, 1286, 5991, 1049, 2071, 4118, 5429,
+    5991, 5991, 392, 5991, 5991, 5991, 346, 5170, 5991, 5991, 5014, 2426, 1164, 1992, 1951, 5475, 5292, 511, 5991, 5991,
+    5991, 5809, 5991, 2514, 5948, 822, 399, 403, 674, 353, 3673, 1813, 2052, 5340, 4568, 5989, 3019, 5991, 5991, 2746,
+    3728, 4763, 5991, 360, 5991, 3528, 414, 4812, 2726, 5991, 5991, 5991, 5991, 5991, 1172, 5991, 5991, 5991, 5691,
+    5991, 986, 5209, 4978, 701, 5991, 1848, 970, 2285, 5991, 2441, 3112, 4241, 196, 5752, 5441, 5991, 593, 5586, 3041,
+    248, 249, 3815, 1681, 4509, 2853, 1282, 1699, 2420, 2880, 2527, 5805, 1535, 3339, 1690, 1667, 57, 3093, 5242, 5178,
+    5991, 5991, 5991, 5991, 2534, 586, 526, 2862, 5991, 3686, 270, 5854, 5991, 5991, 2725, 5991, 1549, 1655, 600, 5991,
+    5991, 5093, 5321, 952, 411, 5991, 5991, 1997, 2269, 836, 993, 1947, 187, 4528, 1897, 2642, 959, 5116, 5524, 634,
+    3832, 400, 2621, 5210, 2581, 117, 18, 19, 3437, 4551, 2664, 2234, 4353, 864, 2978, 1281, 5991, 5991, 1676, 5991,
+    2397, 5991, 665, 4153, 407, 1665, 4098, 5907, 3924, 2100, 1961, 2158, 4379, 5991, 5991, 5991, 1498, 1038, 1068,
+    3471, 5991, 5991, 2794, 5991, 5991, 293, 294, 5053, 3421, 2915, 3287, 5991, 5991, 3364, 5991, 731, 717, 693, 3257,
+    4904, 2756, 2836, 661, 5991, 76, 2220, 5991, 5991, 5991, 20, 21, 4184, 3466, 67, 4798, 1806, 5361, 821, 4680, 3403,
+    1882, 2690, 5991, 5991, 5991, 5991, 5991, 3722, 3897, 3113, 5534, 5991, 5991, 5187, 5991, 4195, 638, 2272, 3719,
+    5991, 5991, 5921, 4310, 5991, 2912, 382, 5991, 5991, 5991, 5991, 2410, 5991, 3603, 5834, 5840, 2405, 1883, 4066,
+    1094, 5286, 1711, 3051, 1878, 2594, 4652, 505, 445, 1971, 3228, 5536, 2692, 2296, 594, 189, 1445, 4513, 748, 4538,
+    1870, 5452, 3738, 2059, 2872, 1738, 2582, 4166, 2765, 4733, 5984, 5991, 3908, 5991, 875, 5991, 1671, 5991, 5991,
+    5140, 704, 4217, 3962, 5976, 2189, 5991, 1617, 5991, 5991, 2267, 5991, 5991, 5991, 756, 4088, 5652, 2755, 5991,
+    5991, 5991, 504, 2633, 1894, 1443, 3808, 2368, 2418, 1739, 2865, 3769, 5074, 4057, 107, 5991, 5991, 5991, 1264,
+    5991, 2942, 5034, 5991, 5991, 5991, 3465, 5344, 5991, 5474, 5991, 4415, 885, 1600, 5991, 1209, 5991, 5991, 1144,
+    5991, 2504, 5991, 2718, 5991, 5399, 5715, 3306, 696, 5136, 1298, 461, 3759, 481, 2786, 5844, 440, 1373, 5991, 3855,
+    5991, 5991, 5991, 5991, 4727, 1073, 4366, 1306, 1783, 5991, 3296, 5991, 3591, 5991, 5991, 1329, 5991, 5991, 5991,
+    5991, 5991, 1181, 4699, 5991, 5991, 4285, 700, 1530, 814, 5991, 60, 5991, 947, 2458, 845, 5991, 5991, 5991, 2359,
+    1556, 3105, 3106, 5991, 5991, 5991, 3859, 3706, 5991, 5991, 3427, 2761, 2777, 2254, 472, 1178, 5991, 4360, 5991,
+    5946, 4110, 1837, 4840, 5857, 4043, 1536, 4879, 5991, 605, 811, 1190, 4332, 4875, 5062, 1183, 906, 5991, 5991, 5991,
+    5991, 5991, 644, 4405, 3584, 5106, 1204, 3231, 4673, 5991, 5991, 2176, 2217, 5991, 2447, 2475, 5307, 2412, 794, 458,
+    2920, 3670, 2162, 2251, 5991, 5991, 5991, 1725, 492, 2762, 3203, 50, 5019, 1592, 169, 1334, 3997, 3204, 4341, 5991,
+    5991, 5991, 5991, 5947, 5220, 5991, 5269, 1697, 5270, 2042, 735, 5991, 1938, 5679, 925, 5991, 4696, 350, 4469, 4614,
+    3171, 2530, 240, 1814, 241, 4076, 5936, 5102, 4729, 3127, 520, 3521, 1241, 975, 1182, 2986, 3056, 366, 2448, 1985,
+    2117, 2129, 2215, 5128, 2548, 4604, 3831, 484, 5466, 4218, 3841, 1308, 4155, 5213, 5347, 820, 4782, 5991, 5360,
+    4187, 431, 692, 2825, 1654, 5991, 4231, 4475, 2506, 4177, 1161, 5499, 1162, 4116, 880, 2859, 381, 4718, 3852, 4930,
+    4945, 1128, 714, 5991, 5991, 2465, 753, 2997, 4445, 1908, 4101, 2476, 2870, 2259, 376, 5542, 4671, 5301, 5302, 5201,
+    469, 3862, 91, 2483, 204, 5991, 94, 5991, 5991, 5991, 5991, 1798, 1714, 2262, 641, 5657, 3725, 3487, 3957, 1688,
+    1349, 3780, 5991, 5028, 5991, 5991, 5991, 5991, 2790, 2211, 5045, 2954, 572, 5991, 1616, 5991, 4271, 5991, 5991,
+    1245, 74, 1916, 4944, 5991, 5991, 5991, 2562, 852, 2737, 3456, 2867, 862, 3615, 4139, 5991, 1755, 4554, 3072, 1603,
+    373, 4480, 1691, 678, 4989, 2048, 3721, 3201, 2567, 338, 1031, 2124, 5991, 4390, 5355, 5537, 2611, 185, 5991, 2493,
+    5180, 5356, 4666, 5587, 3310, 5303, 1808, 5615, 2838, 2559, 2574, 1357, 2528, 2103, 1319, 2240, 2384, 4598, 4599,
+    2288, 3345, 5462, 3761, 3735, 611, 553, 1395, 36, 37, 1375, 667, 5469, 5991, 5991, 5991, 737, 2884, 2816, 2738,
+    2415, 3703, 2662, 1726, 5991, 4616, 4097, 3964, 387, 4482, 359, 393, 3462, 3834, 954, 774, 1118, 2437, 3000, 4412,
+    1841, 336, 499, 4477, 3625, 5867, 5763, 1619, 4404, 5846, 5036, 5309, 1580, 887, 2732, 2142, 2194, 1724, 226, 2017,
+    227, 4685, 589, 1351, 3099, 332, 3357, 3014, 2207, 148, 5953, 1922, 153, 3744, 621, 5114, 1076, 5730, 4399, 3732,
+    3928, 5991, 3243, 5991, 4885, 5991, 3822, 4918, 5581, 5662, 977, 927, 3214, 463, 2255, 5991, 4532, 4100, 5991, 5353,
+    5991, 543, 2882, 1629, 5166, 3022, 4811, 5991, 5991, 5991, 1863, 1712, 1891, 2532, 1318, 457, 3715, 4017, 3080,
+    4742, 1293, 4106, 1408, 5506, 4786, 5991, 3399, 1169, 3707, 395, 65, 1085, 1785, 3036, 4943, 1090, 796, 2060, 1394,
+    1516, 4713, 4576, 1338, 3826, 4683, 5610, 5991, 5991, 2743, 1634, 108, 3236, 5991, 1875, 3598, 4552, 24, 25, 4298,
+    4700, 5991, 3956, 5979, 4714, 3229, 2401, 5991, 869, 5654, 5991, 5991, 4073, 5991, 5991, 4372, 5991, 5991, 919,
+    3878, 5991, 4181, 5991, 732, 3435, 5982, 1304, 3276, 5467, 5060, 3951, 2929, 5088, 1543, 904, 456, 5619, 347, 740,
+    2179, 104, 2741, 2610, 2474, 2940, 5003, 5991, 3968, 3248, 2855, 1949, 5991, 4794, 5991, 5991, 5991, 5991, 5991,
+    2873, 5991, 1517, 5991, 4465, 1528, 5756, 2035, 5305, 5991, 5991, 5991, 5991, 5991, 3337, 997, 4646, 4899, 960, 937,
+    5977, 5551, 1262, 5991, 3899, 4588, 4211, 1989, 1750, 1821, 5991, 2564, 5991, 5991, 751, 5991, 5991, 5991, 4295,
+    5675, 5308, 5564, 3532, 5864, 5740, 1700, 831, 1790, 5273, 2763, 2177, 2914, 1056, 5777, 4401, 4030, 1970, 1722,
+    1364, 4506, 4901, 291, 2498, 292, 2773, 2931, 2113, 2235, 3830, 2283, 888, 799, 2720, 1708, 3674, 5916, 1799, 1982,
+    5829, 3232, 2881, 2286, 5975, 2291, 198, 68, 3656, 824, 1672, 5991, 5991, 5991, 5991, 5991, 2542, 5061, 5991, 1884,
+    5991, 5774, 2232, 5991, 5991, 5991, 5991, 5991, 5991, 2640, 1716, 1847, 786, 991, 44, 45, 1152, 2086, 2275, 2245,
+    157, 4597, 5470, 5858, 3535, 2116, 3718, 1718, 4122, 5085, 3720, 1983, 5494, 1538, 3771, 86, 4518, 5311, 5991, 5991,
+    5991, 4270, 5991, 2466, 5991, 5991, 1243, 1322, 1637, 720, 990, 5991, 5991, 5991, 5991, 5785, 5991, 2092, 2641,
+    5185, 4105, 754, 5991, 5991, 2651, 1861, 576, 1483, 2745, 2067, 2962, 5991, 5991, 5991, 5991, 1174, 5897, 3406, 528,
+    5991, 63, 879, 5991, 3023, 4848, 2266, 1011, 5991, 5991, 5991, 5991, 3383, 2438, 825, 5991, 1649, 325, 1016, 3269,
+    2612, 5377, 326, 3562, 5721, 3130, 1159, 3202, 2126, 2292, 3661, 942, 4783, 5482, 3937, 5991, 1435, 5991, 2507,
+    4235, 5991, 5991, 3393, 1008, 5991, 531, 3054, 3493, 5991, 5991, 5991, 5653, 5778, 1303, 5707, 5773, 3241, 1297,
+    2967, 3237, 3616, 4787, 2423, 2197, 5991, 5991, 5497, 4194, 5171, 1343, 3280, 1189, 3222, 5579, 5197, 1644, 5158,
+    5991, 4823, 3786, 5991, 5901, 5991, 3347, 1036, 213, 5991, 5991, 5991, 5991, 5991, 2016, 3880, 1842, 459, 1342,
+    5991, 2473, 3094, 5991, 2592, 5932, 1611, 5095, 5558, 2112, 5991, 5991, 5991, 5991, 5991, 1745, 1013, 2084, 5991,
+    5991, 4205, 5991, 3174, 5991, 5991, 5991, 5991, 5991, 5991, 913, 1831, 5172, 5173, 3480, 3783, 2649, 1413, 4254,
+    2457, 4464, 4095, 5991, 2533, 2417, 5991, 5991, 5991, 1289, 5808, 5020, 1328, 767, 2995, 5991, 5991, 2953, 5991,
+    5991, 4167, 5991, 5991, 4137, 2624, 4395, 165, 426, 5991, 5991, 4826, 853, 5205, 4291, 4734, 2676, 5738, 2163, 5478,
+    2464, 5991, 5224, 375, 3817, 5043, 871, 3323, 3690, 4631, 5991, 5991, 5991, 5991, 4325, 1235, 4370, 4161, 4127,
+    2685, 2971, 2185, 4426, 2271, 1522, 3647, 5914, 961, 5514, 2008, 567, 1550, 5856, 1455, 4042, 1132, 1176, 1396,
+    4342, 2679, 284, 410, 285, 1320, 51, 1377, 628, 3380, 566, 5991, 5991, 1797, 5316, 5181, 5289, 4001, 4744, 5991,
+    5991, 355, 2436, 4747, 4941, 5991, 2461, 570, 5991, 2351, 5991, 5991, 5991, 4156, 3717, 5991, 5991, 5991, 5991,
+    3360, 4521, 5656, 4902, 4010, 5991, 5931, 5991, 1990, 535, 2906, 5991, 5079, 473, 5991, 5104, 2977, 1058, 5343,
+    3879, 5521, 1346, 2999, 579, 1818, 3378, 4766, 2784, 2805, 468, 3210, 2797, 2218, 4484, 3885, 5249, 3927, 5991,
+    5797, 2555, 3483, 1153, 1537, 2, 5991, 5949, 5682, 918, 460, 5991, 5991, 5991, 5991, 604, 496, 5671, 5991, 1042,
+    3877, 5823, 3160, 2490, 3356, 205, 5991, 5991, 5991, 5991, 517, 2617, 5526, 2058, 5991, 5991, 4922, 5991, 5563,
+    2698, 5991, 5991, 5991, 3066, 3447, 5991, 5991, 417, 5256, 2963, 5991, 5991, 5145, 4659, 2750, 3579, 405, 5832,
+    5272, 1588, 2605, 1180, 4558, 1185, 3743, 5991, 5991, 5991, 1682, 5991, 5544, 5991, 5991, 5991, 5991, 1160, 538,
+    3714, 3823, 2383, 3991, 5991, 5991, 3449, 246, 3410, 5991, 5991, 5991, 5991, 5991, 5991, 5991, 5991, 5991, 4176,
+    5991, 804, 5991, 5991, 1451, 5543, 5037, 2261, 1740, 2043, 725, 3940, 3371, 5668, 5991, 610, 3692, 5991, 5991, 4260,
+    4256, 2191, 5991, 5991, 120, 5674, 1266, 3285, 5689, 3536, 3821, 1613, 4846, 4847, 3253, 1852, 3295, 3417, 87, 3363,
+    4776, 2974, 1567, 2121, 4062, 1846, 4324, 1017, 1457, 3251, 5280, 5105, 3376, 406, 4851, 2258, 2274, 3748, 1684,
+    5188, 56, 3754, 1103, 5031, 5714, 4504, 2406, 5905, 1950, 2547, 2316, 3358, 2622, 3933, 98, 5991, 3898, 3923, 2408,
+    4996, 2625, 3695, 3749, 1607, 2830, 5632, 3334, 4185, 2908, 5991, 3871, 3270, 745, 4308, 1120, 5991, 2435, 5879,
+    2827, 4, 5952, 438, 2926, 3330, 1945, 4958, 5593, 1260, 768, 2109, 1804, 870, 1976, 1602, 5463, 1762, 5507, 370,
+    3043, 2331, 4492, 4494, 2012, 3655, 797, 5115, 3992, 633, 5991, 5991, 1663, 5991, 4164, 5991, 5991, 5991, 4478,
+    5991, 5991, 5991, 5991, 2899, 4227, 3458, 3574, 3259, 3644, 1624, 1003, 5966, 1242, 491, 4702, 2742, 5175, 1412,
+    5991, 4423, 5530, 5991, 2524, 1313, 1130, 5191, 5501, 4425, 5333, 3057, 2629, 618, 4147, 2891, 3300, 3037, 1247,
+    1025, 1658, 2355, 4651, 4658, 1571, 4128, 5742, 5959, 5225, 2811, 5643, 5991, 1336, 3316, 4209, 3916, 4277, 5720,
+    5644, 5991, 4146, 1703, 202, 5991, 4929, 5991, 2257, 5559, 4670, 5991, 4079, 4966, 3742, 487, 5991, 3606, 5746,
+    5950, 5991, 5991, 5991, 5991, 5991, 5991, 273, 3077, 274, 5991, 2032, 5991, 1871, 5991, 2979, 5788, 5991, 5991,
+    5991, 1717, 5991, 5991, 5991, 5169, 5991, 3586, 1084, 4417, 2045, 5991, 5991, 5029, 4065, 2404, 5384, 3856, 4263,
+    3324, 5780, 4091, 5138, 5089, 4731, 2099, 3803, 1526, 777, 327, 219, 3864, 3892, 1779, 1765, 1838, 3653, 3654, 1485,
+    2452, 4545, 957, 5649, 3074, 298, 299, 3634, 4995, 2110, 2154, 166, 3788, 3869, 315, 316, 502, 2921, 3702, 5149,
+    3582, 4038, 3873, 1369, 4793, 556, 3641, 5112, 5991, 5991, 5696, 5991, 5991, 5196, 1403, 5991, 5991, 5991, 3570,
+    1994, 2918, 493, 1956, 95, 5722, 1350, 5723, 2833, 2964, 1824, 548, 5678, 762, 2938, 2166, 718, 38, 39, 1133, 3773,
+    4607, 5991, 5991, 5991, 5991, 926, 1529, 2353, 3680, 5625, 5629, 2024, 390, 3581, 3135, 4163, 612, 2141, 5820, 5724,
+    4450, 5991, 527, 5991, 1219, 3460, 3162, 5991, 5578, 3542, 5991, 4927, 5712, 5687, 1560, 4698, 771, 2522, 2643,
+    5638, 5909, 4877, 4050, 2253, 4009, 5488, 4791, 1401, 1777, 2710, 5339, 3658, 5584, 3362, 4878, 2667, 5891, 4026,
+    4027, 5182, 2768, 2491, 4627, 4628, 2935, 2181, 4224, 3039, 5153, 3595, 2219, 1055, 909, 5007, 4003, 5986, 3569,
+    5991, 5991, 1356, 5519, 5222, 1315, 3034, 5991, 1378, 5991, 5991, 5991, 5991, 2044, 5423, 5337, 5091, 5991, 5991,
+    5991, 752, 5991, 5991, 5991, 3386, 1914, 3387, 2479, 5485, 4728, 3407, 510, 5991, 5991, 4920, 5991, 1867, 126, 1502,
+    2216, 1388, 5113, 210, 2600, 2630, 1324, 5010, 5991, 4980, 1431, 1432, 5066, 5527, 2111, 1046, 5991, 5991, 5991,
+    3667, 3889, 0, 2800, 818, 4653, 3158, 2840, 2372, 22, 23, 782, 929, 5129, 2539, 4320, 3121, 2226, 5991, 3883, 2968,
+    5991, 5991, 5991, 5991, 5991, 5277, 5278, 2463, 4950, 2597, 1633, 2127, 2317, 5991, 4225, 5991, 2319, 3652, 3649,
+    1610, 2754, 186, 5991, 2029, 3513, 2131, 5443, 3740, 4468, 5934, 2868, 416, 4221, 1618, 2362, 5991, 69, 5991, 5991,
+    5991, 5991, 5991, 5991, 5991, 5991, 5991, 5991, 2913, 5341, 5991, 1433, 5991, 5991, 5991, 5991, 1059, 5991, 2969,
+    5991, 5991, 2526, 5331, 5991, 5991, 5991, 2821, 4357, 1232, 5991, 5991, 3365, 3200, 2091, 5991, 4570, 1768, 331,
+    5602, 4319, 915, 803, 3128, 1123, 2306, 624, 4751, 5991, 798, 1447, 151, 5991, 4311, 3789, 1007, 5991, 5991, 5991,
+    5991, 5991, 5991, 4374, 781, 5437, 2909, 5991, 5991, 5991, 917, 5991, 5991, 5991, 5991, 3007, 1632, 5991, 5991,
+    2841, 3857, 3623, 5991, 5991, 1694, 5991, 5991, 5202, 5203, 5991, 220, 1583, 129, 4132, 4923, 5677, 2300, 5759,
+    4365, 308, 2700, 164, 3794, 5577, 4732, 1978, 121, 664, 1429, 1430, 3016, 5709, 4547, 4358, 1926, 5991, 5991, 5991,
+    5991, 1735, 5991, 5991, 5991, 5991, 4199, 3697, 5991, 5300, 5991, 953, 5926, 4179, 3107, 3108, 3052, 5991, 2512,
+    5570, 419, 1995, 4907, 3729, 5282, 5991, 4968, 5991, 5991, 5991, 2369, 5991, 1816, 5402, 5991, 5991, 5991, 170, 938,
+    4052, 2902, 907, 102, 5991, 5991, 4681, 532, 3746, 5991, 5012, 5991, 1920, 5991, 5991, 5991, 155, 5991, 5991, 2373,
+    3733, 5991, 5991, 4107, 159, 4586, 3290, 5991, 1440, 4431, 823, 4712, 5991, 4140, 3863, 58, 5991, 5991, 559, 3875,
+    5425, 5991, 5991, 5991, 5991, 5991, 5991, 5991, 4259, 319, 320, 848, 5749, 4549, 2874, 5991, 5991, 892, 5765, 5516,
+    1116, 5991, 830, 561, 5941, 4255, 616, 333, 4037, 1216, 4377, 632, 2078, 1749, 4249, 4900, 5991, 4126, 1751, 2102,
+    1409, 5991, 5403, 1827, 236, 5969, 237, 3153, 3157, 3683, 778, 3097, 5438, 3677, 1885, 2313, 5991, 5388, 5991, 1542,
+    5991, 5991, 5991, 2813, 2550, 5991, 5991, 5991, 1886, 5991, 5991, 3772, 5991, 5991, 5787, 1557, 2775, 5991, 595,
+    5960, 1391, 5991, 5991, 5991, 5991, 5991, 3946, 116, 5991, 5532, 3032, 5991, 4785, 1954, 5991, 4590, 4387, 422,
+    5991, 3061, 1508, 4237, 4437, 3186, 344, 5991, 5825, 5991, 5991, 5991, 5991, 5991, 4339, 3605, 509, 4441, 2928,
+    2744, 5991, 5991, 5991, 5991, 5991, 939, 995, 3590, 3515, 5547, 1024, 1252, 5670, 2470, 5838, 4359, 4856, 4972,
+    5408, 1489, 4611, 3431, 1439, 5566, 3527, 1674, 4738, 1088, 5143, 690, 3319, 3208, 4739, 708, 5217, 362, 5991, 5142,
+    2672, 5991, 3632, 1195, 5991, 1051, 3242, 4525, 2074, 5000, 1958, 2072, 5991, 5991, 4168, 2050, 4746, 3448, 5991,
+    4307, 5991, 5991, 3438, 5991, 5500, 2910, 2105, 2302, 2203, 5991, 1456, 3920, 5991, 1888, 5991, 3224, 5624, 1124,
+    5991, 5991, 5991, 4743, 3263, 563, 1772, 585, 524, 3900, 2626, 5772, 1492, 1250, 1853, 2709, 2951, 2171, 4858, 3469,
+    2209, 3195, 4226, 788, 2468, 255, 3618, 5991, 3558, 5991, 4780, 1363, 2281, 5991, 5991, 5991, 2907, 3963, 5692,
+    4704, 2010, 2004, 5991, 5991, 5991, 1849, 1993, 5991, 966, 2570, 1097, 1874, 3404, 317, 318, 1474, 681, 1393, 5132,
+    4208, 5991, 1210, 5588, 3576, 5860, 2208, 2280, 1074, 5991, 3588, 5991, 5991, 5991, 916, 5991, 4253, 5991, 5991,
+    5991, 4561, 539, 5962, 2669, 154, 3335, 1918, 1917, 2484, 1782, 3188, 1754, 2511, 3945, 1975, 4617, 2648, 1987,
+    4493, 4853, 3255, 4781, 5390, 2068, 96, 4206, 5546, 5194, 1113, 1114, 3551, 4421, 132, 592, 1206, 5697, 2323, 5680,
+    4804, 3284, 2293, 1168, 3764, 622, 4725, 4283, 2518, 3965, 841, 5862, 1959, 560, 5293, 5294, 455, 1596, 5991, 5991,
+    181, 5704, 5991, 5991, 5991, 5955, 1269, 5162, 4002, 4389, 1652, 3311, 2433, 5322, 5323, 90, 4657, 2748, 2795, 4396,
+    2892, 5725, 1041, 1037, 3522, 2767, 3643, 4515, 2324, 4403, 2339, 447, 1999, 4262, 878, 4523, 1441, 4373, 911, 216,
+    5991, 5330, 5585, 3103, 3104, 223, 224, 4159, 5970, 1513, 3441, 5849, 5167, 1237, 4505, 4916, 4668, 2776, 2150,
+    3710, 1705, 101, 5152, 5492, 5991, 5387, 4461, 5991, 5991, 5991, 4640, 1519, 3467, 4087, 1744, 958, 4448, 5991,
+    5991, 2627, 761, 1449, 1986, 5991, 5991, 5991, 5991, 1544, 3178, 1505, 4830, 2386, 2957, 4174, 3609, 5991, 1134,
+    2046, 5991, 5991, 5991, 4603, 5991, 5991, 1932, 5193, 3580, 1184, 1787, 5884, 5991, 3628, 3919, 577, 2279, 964,
+    5991, 2365, 4548, 5991, 1559, 1760, 2416, 3315, 5121, 5991, 3737, 5991, 1327, 4130, 135, 2040, 5991, 5383, 2561,
+    442, 4474, 5991, 5991, 5991, 5991, 5562, 5991, 5991, 835, 5991, 5991, 5991, 5991, 4290, 5991, 2703, 5991, 5991,
+    4070, 3671, 5991, 5991, 85, 5991, 5991, 5421, 2769, 2804, 3829, 2200, 1614, 5991, 4436, 5991, 627, 5991, 5991, 5991,
+    5991, 5733, 5991, 5279, 4869, 1022, 3422, 5991, 5991, 5991, 5991, 4048, 4497, 4806, 1730, 4593, 1876, 1358, 474,
+    4397, 3998, 3747, 3758, 1460, 4510, 602, 1093, 3073, 5250, 1249, 1317, 131, 421, 3415, 3089, 4466, 3975, 5735, 1487,
+    1005, 2462, 2934, 536, 1102, 4111, 3560, 3942, 805, 5991, 3173, 5881, 1307, 5991, 629, 467, 1099, 2344, 5753, 779,
+    2455, 2195, 5991, 5991, 5754, 5991, 2848, 5991, 5991, 397, 5991, 5991, 2080, 5991, 3150, 2021, 2087, 4960, 2659,
+    1677, 287, 288, 3800, 971, 4250, 1108, 5991, 5991, 5117, 5991, 4288, 5768, 82, 5991, 5991, 5571, 3557, 3893, 3109,
+    5614, 5991, 3018, 5991, 5991, 1309, 4669, 5991, 1792, 4134, 5991, 5991, 5070, 5991, 4816, 924, 518, 448, 4656, 5839,
+    2421, 5991, 3534, 3943, 5991, 5991, 5991, 4803, 5991, 5991, 5991, 4169, 5991, 4121, 5991, 4648, 5991, 4457, 2583,
+    5991, 5991, 5414, 5991, 5052, 529, 1784, 34, 35, 3095, 300, 301, 3811, 1032, 3333, 4884, 4172, 2930, 3699, 321,
+    1421, 1422, 322, 4104, 3519, 3030, 2077, 2787, 5991, 5806, 1009, 3412, 5110, 1077, 5991, 4682, 5991, 5991, 5991,
+    5991, 4894, 5991, 2467, 4550, 71, 5991, 893, 5047, 128, 5991, 5991, 5991, 5812, 5991, 5490, 3620, 5991, 5991, 5991,
+    5991, 5991, 5991, 5991, 5991, 978, 4301, 5991, 2343, 3409, 5329, 867, 5991, 2088, 5991, 4852, 5991, 5312, 4819,
+    4129, 3268, 3185, 114, 2278, 5991, 747, 5991, 5991, 5991, 4238, 3698, 5991, 4434, 5935, 4034, 2563, 4675, 5784, 614,
+    5991, 5991, 5531, 5991, 5991, 4402, 5613, 5991, 5991, 5991, 5991, 1129, 776, 2146, 5991, 886, 5160, 5161, 1096, 914,
+    4302, 2019, 4350, 3006, 330, 3301, 2846, 5262, 3750, 4665, 846, 5991, 3064, 5845, 437, 3949, 967, 1314, 4242, 1295,
+    4951, 4967, 4933, 1166, 5044, 4946, 979, 5420, 5350, 2310, 5039, 5991, 5991, 5991, 5991, 5991, 5991, 4502, 2793,
+    5991, 5991, 4981, 5008, 3791, 5991, 3136, 3608, 773, 3941, 1621, 5991, 5991, 5991, 1156, 1157, 4566, 1692, 584,
+    5755, 655, 2729, 2850, 4347, 4019, 3451, 1386, 1463, 4983, 2523, 5904, 1340, 2937, 5004, 3132, 1910, 42, 43, 3931,
+    668, 669, 3678, 5626, 1534, 1574, 3169, 4993, 876, 588, 4694, 5078, 2990, 558, 4859, 4541, 3550, 3138, 5373, 1227,
+    4741, 1860, 433, 3396, 1248, 4481, 4196, 858, 2130, 5991, 5991, 987, 5991, 2104, 5991, 5991, 5971, 3148, 5991, 5991,
+    5762, 5991, 3079, 583, 4178, 2364, 1599, 178, 4064, 3895, 1208, 4451, 5893, 4488, 4615, 4334, 1767, 1925, 1272,
+    2445, 2815, 2206, 5991, 5991, 5991, 5655, 5991, 5991, 5565, 5991, 5991, 3088, 5991, 2298, 5991, 2201, 5179, 5991,
+    5991, 5954, 1729, 3514, 5888, 3712, 5991, 5244, 5695, 3768, 5991, 5991, 5410, 5991, 5218, 5219, 3083, 3164, 1126,
+    3713, 1752, 2782, 141, 5991, 1928, 4102, 470, 3691, 4438, 5991, 3541, 5022, 3278, 2036, 5734, 5991, 5991, 3305,
+    5991, 5991, 790, 5991, 127, 5991, 3050, 5991, 3145, 5991, 865, 4144, 4071, 147, 3724, 4013, 2399, 3137, 5991, 2370,
+    5991, 5991, 5991, 5991, 4961, 5991, 1020, 3461, 4600, 895, 2202, 2115, 675, 3368, 5424, 5517, 228, 4850, 4331, 365,
+    3010, 3844, 3989, 480, 1054, 5628, 5072, 3909, 2198, 3701, 793, 5928, 4386, 1095, 3221, 5991, 1864, 1909, 5991,
+    3197, 5991, 5991, 5991, 5991, 2537, 5991, 409, 5385, 5991, 4031, 254, 3091, 3781, 5991, 5991, 5991, 5991, 5991,
+    5698, 5569, 5991, 1887, 5991, 5991, 5991, 5991, 4773, 5991, 5991, 3531, 4439, 1482, 282, 283, 3801, 5766, 352, 3867,
+    5869, 4984, 550, 3523, 2665, 1678, 5938, 2946, 2229, 3423, 5376, 923, 507, 5991, 1533, 5991, 1217, 1287, 5991, 5991,
+    5991, 3327, 646, 258, 4761, 5991, 2222, 4674, 5991, 1240, 5807, 3211, 264, 265, 697, 3086, 4903, 3700, 3838, 5991,
+    5991, 5991, 5991, 5642, 1135, 182, 5067, 75, 707, 5436, 5991, 5991, 5991, 3444, 5991, 3676, 5667, 2237, 5991, 5991,
+    5991, 5991, 3497, 2766, 5991, 844, 5991, 5991, 5548, 1015, 1929, 2697, 428, 5221, 4602, 5991, 5991, 5991, 5991,
+    5991, 5991, 5991, 5991, 2927, 5057, 5991, 2132, 1720, 5991, 5991, 5645, 1137, 5991, 4663, 1361, 3213, 5991, 5991,
+    5991, 5991, 5991, 5991, 4362, 3149, 5991, 656, 5991, 5991, 1709, 1851, 2005, 5567, 3594, 863, 5260, 5991, 4572,
+    4573, 4149, 5991, 5991, 1595, 5974, 1822, 4692, 5991, 2538, 1301, 4162, 2683, 5991, 3388, 5465, 5991, 2864, 5991,
+    3426, 348, 5810, 5540, 2287, 2411, 1773, 4046, 3123, 3314, 552, 5032, 2061, 4790, 2037, 3076, 866, 2139, 5480, 4268,
+    1028, 4762, 5991, 635, 5927, 3131, 221, 222, 2449, 1626, 2674, 2785, 2304, 2505, 5081, 3215, 3602, 5426, 1594, 1902,
+    4170, 4896, 4959, 4346, 5991, 5708, 2603, 2572, 412, 5775, 1246, 2145, 5737, 4947, 5798, 783, 4045, 2639, 3020,
+    1640, 2510, 3397, 2602, 645, 1331, 3194, 1581, 4688, 206, 3642, 5991, 125, 5991, 5991, 5799, 5991, 4832, 3950, 4530,
+    4340, 1196, 4914, 3631, 1381, 2409, 2733, 5495, 4524, 2799, 5991, 5991, 386, 5991, 5991, 5991, 5991, 5991, 2635,
+    5991, 5991, 5991, 5991, 968, 5991, 1140, 1428, 5991, 5991, 980, 874, 5991, 4443, 4444, 1835, 5991, 770, 5991, 5991,
+    2670, 4207, 2844, 3704, 5991, 5991, 5991, 1896, 5991, 4006, 5991, 5991, 1244, 2788, 5991, 5991, 5991, 1843, 4606,
+    5991, 5991, 3903, 232, 233, 5991, 854, 3925, 4540, 5991, 5991, 3413, 4559, 1904, 2565, 5621, 5461, 5991, 5991, 1836,
+    323, 324, 3436, 5130, 5131, 52, 1034, 1258, 4345, 3648, 789, 4236, 5991, 5824, 5911, 3896, 4449, 3565, 3369, 5174,
+    4491, 4113, 4304, 1292, 3454, 4382, 5572, 792, 54, 546, 4041, 5476, 1057, 3770, 873, 4709, 5991, 5991, 5991, 5991,
+    5991, 5991, 4976, 5991, 5991, 3921, 2820, 5991, 5991, 5991, 3326, 5345, 1944, 5184, 2443, 3230, 5991, 1165, 5991,
+    4338, 3452, 4578, 5991, 5991, 394, 1399, 4897, 4458, 5991, 2758, 5991, 5991, 2810, 1693, 3922, 5991, 5991, 5991,
+    1915, 4952, 5991, 2472, 5991, 4189, 2822, 5991, 2453, 2677, 1756, 4432, 4736, 2492, 4232, 5991, 2076, 5991, 3416,
+    1936, 475, 3734, 613, 5991, 5440, 3566, 207, 673, 2018, 5393, 5283, 2723, 5991, 5991, 6, 7, 5991, 5016, 2944, 5600,
+    3633, 5991, 5991, 1299, 2227, 5991, 4962, 5183, 721, 943, 4141, 1464, 2495, 4939, 1685, 3814, 4014, 1540, 3384,
+    3385, 3450, 4520, 3289, 401, 1815, 5801, 1857, 5404, 4035, 329, 3163, 3011, 3165, 3166, 2393, 2560, 523, 4965, 691,
+    4383, 3785, 3277, 1731, 2366, 1158, 1145, 5150, 1, 5991, 1811, 3240, 5991, 653, 5991, 5991, 1488, 5991, 4471, 2706,
+    2832, 3952, 1789, 5991, 5991, 5991, 5991, 5841, 4621, 1192, 1510, 3029, 1998, 1139, 2276, 1078, 5991, 5991, 5991,
+    5991, 5991, 1444, 5991, 3096, 5991, 834, 935, 5991, 5991, 1459, 5991, 5991, 5991, 5991, 5764, 1937, 3234, 4970,
+    3915, 5254, 5991, 2190, 5271, 5627, 5509, 501, 1639, 2924, 5442, 4215, 5991, 4660, 5991, 5991, 2898, 3668, 5991,
+    5991, 5991, 5991, 5991, 5991, 4330, 3260, 5991, 5991, 5991, 5991, 5991, 2090, 1265, 2589, 5895, 1609, 5991, 252,
+    3140, 5991, 5991, 5991, 5991, 5991, 5991, 5991, 5991, 1230, 5991, 5688, 1747, 259, 490, 2196, 5991, 5539, 2379,
+    5991, 5991, 5076, 3583, 5852, 3687, 3184, 1004, 1199, 2673, 4247, 5991, 5991, 5991, 1702, 663, 2780, 3021, 620,
+    5460, 1387, 4686, 4963, 4567, 4276, 1877, 5902, 5464, 77, 1302, 1606, 5991, 4089, 5757, 4085, 5444, 5991, 5991,
+    4911, 5991, 5991, 5991, 5991, 3336, 5991, 2387, 2444, 5991, 5991, 3338, 5042, 5991, 2925, 5228, 5991, 5991, 5991,
+    5991, 5991, 5991, 5991, 5991, 5991, 4630, 5991, 289, 290, 551, 5816, 1548, 1079, 4363, 466, 1552, 1376, 1426, 1427,
+    1939, 3782, 79, 251, 423, 4281, 173, 2578, 3081, 268, 3492, 5232, 2719, 174, 2781, 1698, 1625, 5592, 2054, 2734,
+    2134, 2151, 144, 2082, 4011, 3779, 4190, 4499, 5991, 5731, 5991, 5877, 5991, 5991, 5991, 5991, 5616, 5365, 435,
+    4188, 1254, 1177, 4748, 1288, 5991, 1321, 1366, 4928, 1547, 1069, 2947, 441, 5991, 3291, 5991, 5991, 260, 261, 1089,
+    5991, 5038, 3046, 3481, 5991, 5991, 5991, 5983, 5991, 1127, 5991, 5991, 5991, 369, 5641, 5782, 5991, 5991, 4667,
+    4759, 5991, 3058, 3818, 1495, 4272, 5850, 5015, 2312, 4888, 5991, 5991, 5991, 5991, 5991, 1879, 2049, 2704, 5991,
+    5991, 5991, 2488, 998, 4949, 837, 5908, 5266, 4175, 1627, 3190, 3187, 5991, 5991, 5991, 3434, 5274, 225, 1221, 311,
+    312, 234, 235, 1679, 3853, 5368, 684, 2164, 3082, 5991, 2721, 815, 5991, 5991, 2860, 2204, 5991, 5991, 1060, 4678,
+    2295, 5075, 4517, 2932, 4406, 5109, 5051, 149, 2070, 3568, 5533, 5226, 345, 5098, 3784, 5186, 5991, 5991, 5991, 229,
+    230, 1019, 547, 4635, 5991, 1774, 5496, 4278, 3887, 5991, 4025, 5991, 5991, 5991, 5991, 5991, 2655, 5991, 4411,
+    4915, 3607, 1506, 4229, 4230, 741, 1504, 2309, 1753, 3995, 5991, 3854, 5991, 4955, 2034, 766, 5991, 5991, 5991, 368,
+    5736, 982, 5822, 4998, 3866, 5991, 5991, 5991, 418, 5991, 5991, 5991, 5991, 3619, 5991, 5009, 4587, 4829, 436, 4691,
+    965, 5379, 2123, 142, 162, 4462, 525, 1290, 2500, 5991, 5991, 5991, 5991, 5457, 2826, 5477, 1817, 4645, 4096, 5713,
+    3845, 860, 40, 41, 3485, 5894, 2831, 177, 3986, 80, 5874, 3111, 3227, 4103, 5987, 1030, 672, 4486, 1695, 384, 5991,
+    5991, 5819, 5991, 4183, 1496, 5991, 5991, 949, 5991, 5991, 4108, 5991, 5991, 2378, 4246, 5259, 3075, 1979, 3028,
+    4917, 2675, 4356, 5885, 540, 4908, 5663, 3913, 2361, 123, 5693, 5961, 724, 4837, 4394, 3042, 3884, 5446, 201, 5991,
+    5991, 2454, 2006, 1901, 2552, 1704, 1141, 5991, 3293, 2852, 1960, 5133, 508, 3600, 3114, 670, 3225, 3264, 1805,
+    5748, 5416, 2434, 849, 3716, 371, 5552, 5991, 2544, 3881, 5925, 5991, 488, 5991, 2502, 4028, 1211, 503, 5991, 5991,
+    5991, 4318, 596, 2374, 5157, 4355, 5991, 5991, 5866, 2268, 3065, 5991, 5002, 5991, 5991, 3068, 1101, 5991, 5878,
+    5324, 2242, 5991, 2329, 5991, 4124, 3727, 3613, 3394, 5538, 3101, 5453, 4931, 5013, 5991, 5991, 5991, 335, 2148,
+    4886, 3907, 2320, 2752, 199, 5991, 5991, 5208, 2900, 2270, 5216, 3741, 3787, 3763, 5991, 4828, 5991, 4824, 62, 5120,
+    2360, 2596, 1414, 1839, 1417, 5991, 5991, 1493, 477, 3219, 2571, 4384, 4707, 3976, 4123, 3809, 2888, 3047, 3122,
+    203, 83, 1117, 2350, 5991, 1686, 2321, 5991, 2509, 277, 5991, 5991, 5991, 3468, 5991, 5991, 5991, 5991, 5991, 3350,
+    705, 5631, 5991, 5991, 5991, 1927, 3491, 5991, 5991, 5991, 5991, 5991, 4201, 1229, 802, 3191, 3694, 4248, 5650,
+    5991, 5991, 1385, 1400, 1384, 5991, 5991, 5991, 5991, 278, 279, 1643, 5991, 5991, 5991, 2933, 608, 3872, 3894, 1446,
+    3182, 1359, 5241, 5991, 5991, 5991, 3372, 2249, 5991, 3723, 3572, 5991, 2056, 5991, 5991, 5991, 2708, 4605, 3806,
+    5991, 5991, 5991, 1638, 2988, 5299, 1410, 5991, 5991, 5991, 1952, 2716, 5991, 5606, 3218, 5710, 2210, 5056, 5991,
+    5991, 810, 3411, 250, 3601, 5204, 3442, 5991, 5991, 244, 245, 5991, 5991, 5991, 1541, 4036, 1957, 3512, 3543, 4577,
+    1892, 4055, 5965, 709, 710, 4420, 5195, 679, 649, 2178, 5991, 5991, 5991, 5991, 2375, 5991, 3635, 110, 4512, 5991,
+    1285, 2714, 5991, 1131, 2157, 1404, 5991, 3501, 5903, 609, 4021, 557, 3776, 1553, 4838, 3246, 5991, 5991, 3151,
+    5306, 5991, 5991, 5991, 5991, 3766, 5991, 5991, 1761, 4252, 5991, 5230, 4715, 5991, 5676, 5529, 5991, 4717, 5639,
+    5991, 5991, 5991, 5991, 5991, 1844, 683, 5479, 5991, 5991, 5991, 5991, 4316, 5991, 1856, 3546, 3547, 1275, 2989,
+    5367, 167, 3730, 2876, 5991, 3155, 4555, 3177, 5991, 2371, 5991, 3309, 1520, 3599, 5176, 1862, 5177, 3552, 5919,
+    356, 2199, 4081, 3341, 2212, 2998, 2338, 5338, 5991, 4029, 4125, 4891, 5991, 4349, 4647, 3044, 5622, 4204, 3554,
+    2774, 5431, 5991, 2314, 3318, 1521, 5991, 1294, 2663, 2250, 1270, 2263, 2277, 3745, 4775, 5411, 4953, 1339, 5991,
+    1035, 1104, 3646, 5991, 5991, 5991, 1566, 5991, 5991, 3974, 5991, 5991, 5991, 5991, 5574, 2580, 5554, 49, 5991,
+    5991, 5991, 1912, 4986, 5991, 5991, 2893, 573, 5991, 5991, 5991, 5673, 5991, 398, 2861, 5991, 5991, 4244, 5991,
+    5991, 5991, 2554, 5991, 515, 973, 5991, 5991, 5991, 5991, 5991, 5760, 5991, 2575, 4467, 3516, 733, 1405, 5991, 1122,
+    5304, 5991, 4796, 5623, 4539, 699, 1098, 462, 1636, 4872, 388, 3526, 727, 3265, 4988, 5991, 687, 883, 3273, 1267,
+    1197, 1052, 4935, 5991, 1589, 192, 5991, 695, 2252, 3479, 5991, 5991, 5991, 4985, 5991, 5991, 2428, 2432, 2958, 902,
+    5991, 2837, 1532, 4842, 4843, 4974, 1554, 5991, 5597, 4392, 1576, 5199, 2041, 2817, 2160, 5006, 3374, 4756, 5991,
+    2569, 2984, 5991, 4994, 5991, 5991, 5991, 5991, 1512, 4624, 5870, 3651, 3751, 5991, 659, 5372, 5352, 5991, 1593,
+    2809, 5991, 5991, 5991, 4825, 5991, 5818, 3980, 2608, 4472, 5498, 5310, 5391, 2011, 5790, 3258, 2783, 5456, 829,
+    3078, 3944, 4039, 1310, 1906, 5991, 3198, 5991, 3445, 1478, 5991, 5991, 5991, 5991, 5791, 5991, 5290, 5291, 5591,
+    4849, 2966, 5991, 4936, 5991, 2699, 5991, 5875, 5991, 5991, 4274, 5991, 1913, 5991, 4069, 3146, 5041, 5082, 861,
+    5991, 5821, 4033, 3753, 1935, 1775, 5837, 214, 5647, 5405, 4306, 4068, 4023, 4813, 2367, 1948, 1142, 2053, 1205,
+    2965, 5378, 3972, 1368, 4447, 3792, 5991, 4243, 5991, 2188, 945, 5505, 200, 2541, 1793, 1238, 5991, 4556, 5991,
+    1666, 5991, 5991, 5991, 5991, 5991, 5445, 3443, 5545, 2985, 5991, 2759, 5991, 2085, 1402, 4323, 4414, 1064, 4173,
+    2680, 4016, 1733, 453, 4636, 4429, 3249, 3381, 93, 4987, 5705, 2671, 146, 5991, 5991, 1418, 3868, 3767, 5991, 133,
+    1719, 3379, 4508, 4452, 3693, 5991, 5991, 4428, 4807, 3008, 1080, 1855, 5991, 3587, 5991, 5978, 2079, 920, 3775,
+    1424, 5991, 4093, 944, 4375, 2083, 2878, 5991, 5719, 4463, 1865, 534, 4476, 4507, 764, 3567, 571, 3802, 623, 5508,
+    5346, 3084, 5427, 5512, 5198, 2695, 5582, 5071, 2155, 1083, 1175, 4770, 1390, 2760, 1146, 1953, 4258, 4863, 5991,
+    2290, 4245, 5518, 5520, 2478, 5991, 5991, 859, 5991, 5991, 3351, 4865, 1499, 482, 3912, 2391, 5991, 5991, 5991,
+    5991, 5991, 5991, 2063, 5991, 5991, 5991, 5991, 5991, 5991, 430, 5991, 5991, 1333, 5991, 5991, 5369, 5991, 2503,
+    3982, 2354, 1996, 1525, 4581, 4582, 908, 3343, 2558, 3905, 4119, 1778, 349, 3882, 3926, 5991, 3797, 5991, 5991,
+    5783, 4703, 2568, 5251, 5252, 1434, 4543, 4855, 850, 444, 855, 3932, 5991, 5900, 3012, 5726, 1981, 2119, 5991, 5991,
+    5284, 5285, 5103, 2991, 2326, 5991, 2585, 5991, 271, 5412, 272, 413, 3439, 184, 4625, 5991, 5991, 5063, 5991, 5991,
+    5991, 3373, 5991, 5991, 1565, 5991, 5991, 5991, 5557, 3025, 2520, 4719, 4723, 992, 4708, 5991, 5991, 3890, 5991,
+    4485, 4032, 5055, 5991, 5898, 5991, 5991, 476, 5972, 5487, 5991, 5817, 1062, 2282, 3929, 1923, 5991, 5991, 5604,
+    2038, 1584, 607, 775, 817, 2000, 5211, 2789, 1163, 4655, 5483, 3344, 1154, 3463, 2731, 4684, 4720, 4975, 5099, 5991,
+    5991, 5991, 5991, 5991, 2993, 5957, 5991, 5991, 5991, 5991, 1930, 826, 5248, 5, 5991, 5991, 5991, 5144, 1903, 758,
+    1415, 5991, 1000, 791, 5413, 2717, 597, 4367, 3563, 2879, 2294, 5155, 4400, 5991, 5991, 2531, 5489, 5991, 5991,
+    5991, 4531, 2114, 5087, 5991, 2688, 5991, 734, 3482, 2136, 1065, 4866, 5991, 2014, 5991, 3321, 5991, 1969, 3233,
+    5991, 5991, 2982, 5991, 5991, 516, 5991, 1198, 5991, 309, 310, 3533, 5363, 5803, 2347, 698, 4954, 4898, 2413, 5991,
+    5991, 5991, 5991, 5991, 5991, 5991, 5991, 3765, 5991, 5991, 5991, 5314, 5450, 3505, 772, 1442, 5991, 2599, 4114,
+    5991, 1683, 12, 5598, 13, 313, 314, 4099, 4860, 5380, 105, 715, 5991, 4059, 5815, 5991, 3488, 5991, 5991, 3689,
+    2529, 2062, 3472, 1326, 5991, 4880, 983, 4378, 5991, 5991, 910, 5991, 3261, 5991, 5991, 1494, 5991, 5991, 4321,
+    5991, 5406, 5991, 5991, 5991, 5991, 5991, 2205, 784, 5758, 1231, 5991, 5991, 5991, 5086, 5991, 5991, 5298, 5991,
+    2812, 2174, 5991, 1845, 5991, 898, 5991, 5991, 5991, 3175, 4585, 4909, 4131, 5991, 5991, 5991, 5991, 5991, 5991,
+    1263, 5096, 2101, 2681, 2161, 2590, 2020, 5991, 1791, 4676, 2941, 5991, 5261, 354, 5991, 5449, 1605, 5001, 5275,
+    5991, 5991, 3500, 3861, 5991, 3418, 2332, 5991, 5991, 4810, 5991, 5991, 5991, 5991, 5991, 5991, 4695, 5991, 4049,
+    4018, 5991, 5991, 3874, 3681, 5991, 2446, 5991, 4092, 4473, 5873, 843, 4768, 4047, 3778, 5991, 408, 4322, 1171, 136,
+    3143, 3134, 5991, 984, 3474, 1071, 3496, 5124, 912, 5515, 5097, 5728, 5418, 5190, 4755, 5991, 4672, 5200, 2241,
+    5349, 5991, 1187, 5335, 1201, 1622, 3354, 2186, 4632, 5991, 5991, 5991, 2577, 3736, 5991, 4348, 427, 1406, 1974,
+    4912, 4078, 5991, 5937, 5991, 5991, 1213, 5991, 5991, 5991, 5991, 3288, 1018, 1573, 3352, 1475, 3279, 891, 3098,
+    4871, 3816, 2125, 4772, 5991, 1014, 4212, 5991, 5991, 5991, 5991, 5991, 3509, 1555, 464, 5991, 5991, 5991, 1673,
+    5409, 3978, 3212, 4337, 703, 931, 2620, 2341, 3320, 1143, 171, 5991, 1277, 974, 5899, 5122, 5123, 4571, 582, 5366,
+    4454, 4455, 4456, 5910, 2801, 4956, 2169, 1715, 163, 5468, 5991, 5991, 5991, 1271, 4526, 5745, 1066, 5396, 2303,
+    357, 5991, 5991, 2398, 5991, 5991, 5991, 3960, 5991, 5991, 5991, 389, 5843, 5991, 2576, 5991, 5991, 4333, 5991,
+    1469, 5991, 3494, 5154, 1820, 2414, 4942, 5991, 4999, 5146, 498, 3518, 3429, 1467, 1371, 2480, 4583, 3026, 1002,
+    617, 4834, 838, 5991, 1539, 1895, 2660, 542, 1039, 380, 446, 3911, 3983, 1050, 3555, 55, 1006, 3004, 4992, 3837,
+    1380, 4622, 812, 955, 3804, 1436, 280, 281, 5381, 3400, 5716, 2845, 2972, 4223, 963, 562, 5991, 2684, 452, 5991,
+    3432, 4706, 5991, 5991, 1562, 5991, 5991, 5991, 2632, 2392, 1027, 3048, 5991, 5991, 3659, 5991, 494, 478, 5159,
+    1471, 113, 5991, 5991, 5991, 5991, 5991, 3147, 4067, 5890, 5792, 2301, 4220, 1890, 4313, 334, 2402, 1010, 3199,
+    4643, 4644, 1680, 3342, 5317, 2033, 2650, 5400, 2691, 4408, 2747, 4082, 2901, 760, 4309, 150, 4158, 5991, 5991,
+    5991, 5991, 5991, 4845, 4409, 3530, 4182, 5991, 5991, 2342, 5991, 5991, 4075, 3575, 4296, 5334, 2357, 5594, 4854,
+    3917, 711, 432, 2081, 2904, 4864, 2318, 2631, 1170, 5929, 5991, 1662, 5991, 2689, 5991, 651, 5991, 5991, 3120, 1687,
+    5991, 5991, 5991, 5991, 5831, 4391, 3161, 1341, 1601, 5235, 5065, 2546, 5364, 3850, 1223, 2713, 4051, 1741, 1274,
+    2883, 3473, 1070, 485, 5991, 5958, 5407, 514, 5991, 3585, 2440, 1612, 130, 4151, 4522, 1940, 2002, 4964, 4750, 1630,
+    3179, 4430, 5991, 5991, 4883, 3757, 5991, 5991, 5991, 4553, 5991, 5991, 5991, 5589, 936, 1988, 5991, 807, 3398,
+    3092, 2193, 930, 2772, 743, 872, 5486, 1280, 5991, 5991, 1737, 5991, 5991, 4142, 5991, 2442, 5991, 3774, 787, 3129,
+    1527, 5991, 5991, 769, 868, 5991, 1061, 5789, 5991, 3669, 574, 2803, 1234, 66, 999, 3126, 599, 5991, 2168, 3495,
+    3252, 3490, 5991, 5991, 5702, 2711, 5454, 1188, 5991, 5991, 4266, 2395, 5991, 5991, 5991, 5991, 2026, 5603, 2792,
+    5991, 479, 2606, 5991, 4771, 1063, 3827, 4608, 4609, 328, 385, 1226, 4868, 1832, 4500, 2089, 5137, 3223, 555, 5523,
+    1481, 4152, 3614, 2871, 1218, 1355, 78, 4344, 5991, 5991, 1029, 1273, 2308, 1764, 5084, 2385, 3807, 4591, 4592,
+    4446, 175, 3709, 3475, 32, 33, 1796, 2330, 2094, 2686, 2866, 3752, 4792, 882, 3966, 5223, 3930, 5991, 4769, 5573,
+    3679, 4991, 5991, 5991, 4722, 5991, 5991, 5991, 5991, 5991, 5991, 5991, 5991, 5991, 5686, 5991, 1193, 1477, 4410,
+    5991, 5991, 712, 1854, 713, 4453, 4352, 4730, 109, 3298, 1212, 5576, 723, 2943, 2983, 4157, 4228, 361, 5348, 5991,
+    5991, 3348, 5991, 1150, 1151, 4519, 5981, 5991, 5991, 5991, 3414, 5991, 5991, 2728, 420, 3760, 1670, 5991, 5991,
+    3071, 795, 988, 2183, 3705, 5118, 5119, 5511, 5296, 5297, 5513, 1458, 99, 5991, 2694, 1461, 5991, 889, 5991, 5991,
+    5991, 5991, 2736, 4197, 5991, 3102, 2030, 549, 2055, 3948, 3303, 2911, 2753, 3886, 5991, 3313, 275, 5612, 276, 5761,
+    5813, 1148, 3971, 5618, 2108, 5991, 625, 5991, 5991, 2701, 1138, 677, 5991, 2039, 2469, 5026, 1653, 648, 4870, 5991,
+    2591, 500, 1657, 3860, 4516, 2264, 4710, 4562, 1776, 2376, 1045, 3167, 5991, 2623, 4619, 4435, 5991, 5991, 3947,
+    1448, 5991, 5991, 4932, 1374, 1757, 2170, 2588, 4061, 4765, 5991, 5991, 1147, 2305, 5139, 4754, 5991, 5991, 5991,
+    5991, 5991, 5991, 5991, 5991, 5491, 3271, 5991, 4264, 5967, 5502, 4887, 1075, 5842, 946, 4971, 5030, 2851, 1707,
+    2961, 3430, 4546, 3708, 739, 3839, 801, 5991, 5991, 5991, 5991, 2230, 2959, 5991, 4239, 3027, 5991, 5991, 5943,
+    2340, 4735, 5991, 827, 5991, 5092, 581, 2311, 1515, 2601, 5125, 5991, 5991, 4317, 5991, 5991, 5991, 5991, 5991,
+    5991, 3420, 5991, 5991, 5991, 5991, 5991, 5458, 5991, 5991, 5991, 4120, 4056, 5991, 5991, 5991, 1092, 5991, 1091,
+    5991, 5991, 4990, 3662, 4165, 5991, 1389, 1345, 5991, 5991, 5991, 5991, 1568, 521, 5395, 5397, 1257, 2400, 3961,
+    5793, 3954, 5164, 5165, 367, 4503, 2751, 5351, 1173, 1812, 3119, 2992, 4292, 4422, 615, 4279, 2875, 3125, 2896,
+    5988, 5058, 5991, 5991, 5991, 5991, 5991, 5607, 5991, 3244, 5991, 5386, 5287, 5288, 5991, 3573, 5991, 4579, 1905,
+    4580, 5257, 5258, 3508, 2652, 4569, 5033, 5991, 2609, 1545, 1490, 591, 3842, 1898, 4261, 3168, 5991, 5596, 5800,
+    5126, 2013, 5991, 5560, 1968, 5694, 4638, 2638, 5991, 5991, 1407, 3062, 5991, 4957, 4289, 5991, 5021, 4015, 4639,
+    5295, 5991, 5991, 5991, 2027, 1900, 5276, 587, 1873, 3428, 3502, 4822, 1332, 3217, 3391, 3392, 1203, 2093, 2172,
+    2246, 4171, 5332, 5991, 5991, 5991, 5991, 5889, 4779, 4388, 5541, 5991, 5991, 5991, 5991, 5991, 5991, 5991, 5991,
+    5991, 5991, 5991, 2228, 5991, 429, 3325, 1964, 5640, 5661, 2936, 2499, 2106, 5471, 4234, 1316, 5991, 5991, 5991,
+    5991, 1881, 5991, 5568, 3876, 4529, 4662, 1770, 1591, 730, 3297, 5553, 5991, 5240, 5991, 5991, 5991, 5991, 5991,
+    5991, 3525, 3254, 4210, 3828, 4117, 1276, 1977, 4867, 4805, 5786, 1360, 1728, 3464, 1214, 2887, 3597, 4063, 5660,
+    2856, 5865, 5054, 4701, 5432, 2165, 3604, 1476, 195, 1880, 3349, 2536, 5920, 4294, 3596, 5336, 3312, 5876, 750,
+    5990, 5991, 3577, 3070, 5991, 2598, 2970, 1689, 1149, 4890, 5991, 2949, 5127, 785, 5991, 5991, 1933, 2521, 5699,
+    451, 2346, 4376, 5703, 2231, 1524, 5601, 4148, 5991, 3955, 2147, 2587, 26, 847, 3049, 27, 3538, 1352, 5637, 1437,
+    1668, 1186, 212, 3087, 832, 1701, 5206, 5207, 5912, 4612, 2628, 4381, 5944, 443, 1486, 2069, 2152, 2107, 14, 15,
+    3245, 4637, 2976, 5991, 3124, 5101, 5690, 4724, 2153, 5064, 1200, 3756, 5980, 819, 3934, 81, 4305, 4427, 64, 686,
+    1809, 1635, 1800, 5141, 996, 3639, 1946, 1362, 1119, 3389, 3390, 3846, 4594, 840, 744, 689, 2814, 2834, 2138, 5922,
+    161, 4354, 4005, 16, 17, 5939, 1347, 72, 115, 1781, 3660, 4222, 5991, 5991, 5991, 4501, 5991, 5930, 5991, 5991,
+    5991, 1802, 5991, 3267, 5991, 5991, 5991, 5991, 5991, 5991, 1650, 5991, 5991, 2497, 4203, 10, 11, 3142, 3476, 2003,
+    5107, 2657, 4940, 2807, 5991, 5991, 5991, 5991, 5991, 5991, 5991, 5991, 1072, 4818, 5991, 1893, 5681, 4498, 5991,
+    4876, 4938, 1659, 3059, 5963, 901, 5991, 2843, 5751, 2724, 5794, 2727, 5433, 5991, 5068, 2749, 2481, 1590, 569,
+    2952, 5080, 5991, 1215, 5991, 5991, 5991, 5991, 5991, 4440, 5991, 3433, 4077, 4380, 4937, 3477, 5549, 88, 5108,
+    1251, 5991, 3419, 143, 5991, 5991, 3902, 3731, 5991, 3977, 5991, 1450, 5991, 5991, 896, 1759, 5991, 5991, 1546, 816,
+    2890, 5991, 1780, 5991, 5991, 5991, 2950, 1675, 3085, 4574, 4575, 1268, 3209, 1501, 1509, 3851, 2358, 1966, 3196,
+    2835, 5685, 5835, 3777, 3031, 3375, 4697, 4610, 3206, 5212, 3636, 5863, 2496, 2431, 4753, 4265, 4044, 5991, 2847,
+    928, 808, 2735, 4213, 5991, 5991, 2322, 3556, 5428, 1531, 351, 5767, 1233, 630, 1344, 1228, 1967, 1615, 4407, 5227,
+    2284, 5991, 5991, 5991, 5991, 1911, 5886, 3994, 5991, 2739, 3053, 5991, 2118, 5991, 5991, 5991, 5991, 3819, 2180,
+    5991, 5991, 5991, 5991, 5933, 2897, 4287, 3133, 5991, 2471, 139, 1239, 5991, 4336, 4784, 5234, 522, 857, 5991, 5991,
+    5991, 1934, 3370, 2540, 5049, 3918, 5991, 5991, 1941, 5811, 5915, 4889, 1823, 3799, 5630, 5991, 297, 5991, 3936,
+    1771, 3578, 5151, 3299, 4789, 4314, 5991, 5991, 5991, 337, 4589, 5550, 4072, 2424, 2668, 4821, 5956, 533, 5094,
+    4418, 3870, 5991, 3156, 425, 3967, 5439, 5991, 415, 5683, 262, 1202, 5991, 5991, 5991, 5991, 884, 364, 1107, 5991,
+    5991, 5991, 5991, 5991, 5991, 5991, 2233, 5991, 92, 5868, 2658, 1660, 5991, 3100, 4760, 738, 3238, 5991, 5991, 5991,
+    134, 4650, 5991, 765, 5717, 1866, 3684, 2244, 5991, 5389, 4495, 2137, 2994, 2260, 5991, 1646, 5991, 2678, 2519,
+    4595, 4596, 1012, 53, 396, 5392, 3545, 3549, 894, 1236, 1575, 4216, 5991, 5991, 5991, 5991, 5991, 5991, 5991, 439,
+    5168, 637, 4861, 486, 5968, 3304, 4534, 3024, 2427, 642, 658, 2289, 4620, 1963, 5459, 4219, 1462, 5991, 5991, 5991,
+    497, 2808, 1500, 5991, 5991, 5991, 3346, 383, 2645, 3282, 5362, 3910, 1807, 1642, 4977, 5991, 5991, 5991, 5991,
+    3637, 4716, 5147, 3115, 2439, 5017, 5991, 449, 3272, 4300, 2557, 5525, 5942, 5370, 1279, 2325, 5732, 2877, 2097,
+    4557, 1829, 1924, 5319, 5320, 379, 5011, 2842, 2696, 2223, 2661, 4297, 2636, 3002, 402, 5608, 3440, 269, 1468, 813,
+    2482, 1962, 46, 3332, 47, 2543, 4862, 2239, 2297, 3355, 3988, 1840, 1047, 1398, 809, 5991, 2348, 5991, 5991, 5991,
+    4626, 4740, 2939, 5448, 5991, 3682, 1472, 4690, 3843, 378, 2829, 5991, 5991, 2299, 5991, 2573, 4398, 4080, 2996,
+    1748, 194, 4192, 5233, 5991, 5991, 5991, 5561, 5991, 2265, 3459, 5718, 3805, 1651, 5991, 4895, 5991, 5991, 5556,
+    5991, 5991, 5991, 5991, 3973, 956, 1179, 5991, 3914, 5991, 5991, 1484, 3192, 3183, 601, 3457, 5069, 1470, 4371,
+    5229, 940, 3640, 341, 1224, 1191, 1497, 4490, 5358, 4460, 1991, 5243, 2403, 3009, 3256, 5111, 5991, 706, 5991, 2917,
+    5892, 5991, 5991, 5991, 5991, 4424, 2363, 156, 1980, 1503, 1732, 3666, 2394, 4979, 2175, 5991, 340, 266, 5991, 5991,
+    5991, 5991, 5991, 2619, 5991, 5991, 5991, 1746, 1834, 1040, 4664, 4135, 3302, 657, 5991, 5991, 3939, 5991, 1111,
+    1112, 5635, 3629, 3663, 4074, 2764, 5991, 5991, 3970, 5315, 5991, 5991, 2389, 5237, 5991, 5991, 5991, 2031, 5134,
+    5135, 932, 1353, 4022, 2182, 5435, 454, 3979, 4693, 5484, 4191, 4601, 2225, 5991, 1706, 4564, 3484, 5913, 1283,
+    2616, 97, 4767, 5991, 5991, 2396, 5991, 5991, 5973, 4442, 3520, 2858, 2315, 694, 5991, 2615, 2515, 3181, 5354, 1044,
+    4433, 4299, 921, 513, 1973, 1579, 2682, 4874, 3193, 1551, 1830, 950, 1819, 342, 424, 3359, 3499, 4094, 5918, 3001,
+    295, 296, 3033, 2380, 3292, 4705, 1256, 2213, 2307, 2705, 176, 5991, 2075, 5991, 4479, 2919, 5991, 5991, 4873, 5991,
+    5991, 5991, 5620, 4020, 4537, 5991, 5991, 1858, 3038, 643, 716, 5991, 5804, 5991, 5991, 5991, 5991, 5991, 5991,
+    5991, 1828, 5991, 5991, 5991, 5991, 1620, 4180, 877, 5814, 4925, 5991, 962, 3262, 2595, 3993, 5991, 1921, 5048,
+    5991, 5991, 5991, 5991, 5991, 5991, 578, 404, 2637, 4282, 3504, 5415, 5776, 4293, 1033, 3116, 2425, 3235, 4536,
+    5991, 5991, 5991, 5991, 5991, 2159, 4312, 5991, 5991, 1370, 3537, 4721, 1354, 191, 5991, 5991, 5991, 5991, 5991,
+    4641, 4642, 5991, 3510, 5744, 3453, 5828, 5991, 5739, 3559, 4269, 3812, 4090, 2335, 5991, 4286, 2553, 554, 5991,
+    5991, 1984, 5991, 5991, 5991, 1736, 833, 3489, 5991, 5991, 5991, 483, 5991, 5991, 5991, 5991, 5991, 3627, 575, 5268,
+    1466, 3013, 3340, 5027, 5991, 5991, 5991, 5991, 2960, 4489, 5991, 662, 5991, 3517, 5359, 5747, 4827, 5991, 5991,
+    5991, 5991, 5991, 1942, 1810, 217, 3498, 3561, 905, 4563, 377, 3935, 2135, 1661, 5371, 5991, 2248, 5991, 5991, 5991,
+    5991, 3040, 2584, 565, 1868, 3405, 372, 2144, 4737, 5991, 5991, 5991, 5255, 5991, 5991, 4459, 5659, 5583, 3424,
+    3958, 5991, 2545, 1048, 3544, 1023, 2381, 5046, 5706, 2489, 3810, 2007, 5148, 3820, 3189, 5991, 5991, 568, 5599,
+    5991, 5991, 5991, 5991, 5991, 5991, 5991, 5447, 4800, 671, 1645, 3239, 5991, 5991, 5991, 660, 4542, 3906, 5342, 138,
+    5991, 5991, 5991, 5991, 5991, 5991, 5991, 5991, 1518, 1514, 1423, 3144, 2337, 2722, 5872, 3408, 4802, 5991, 1563,
+    2345, 2551, 5991, 2889, 168, 3281, 2956, 5327, 4527, 145, 3685, 5394, 1561, 1648, 103, 5991, 3328, 59, 5991, 5991,
+    3548, 3571, 5924, 5605, 1786, 3836, 5991, 5991, 3564, 1121, 2647, 3141, 922, 5991, 4138, 545, 5848, 1769, 1255,
+    2327, 2975, 3790, 5991, 3592, 688, 3331, 5991, 4795, 4919, 3170, 5991, 2349, 5991, 5318, 4788, 4385, 2098, 1859,
+    5991, 5991, 5991, 2120, 5991, 3617, 3726, 5991, 5906, 1454, 3478, 5991, 5991, 5991, 650, 1931, 1109, 1110, 5991,
+    1392, 5859, 5648, 3849, 1136, 1788, 4757, 2377, 5473, 4808, 5991, 5991, 1300, 5991, 5991, 3593, 749, 5991, 1647,
+    5658, 1558, 4273, 3540, 3969, 5833, 5239, 2839, 1043, 2869, 1664, 4328, 4257, 2948, 746, 729, 5991, 2429, 5991,
+    2885, 4836, 5991, 5253, 3796, 5991, 3813, 4924, 4086, 4833, 1943, 5991, 5991, 5991, 2451, 5991, 1438, 5991, 3891,
+    5991, 1972, 2051, 208, 209, 5945, 4687, 702, 3117, 3506, 5830, 1222, 647, 3395, 180, 5991, 5991, 4774, 5991, 5991,
+    28, 606, 5701, 29, 5991, 2981, 2613, 851, 5991, 119, 4677, 2702, 5991, 5991, 3630, 2382, 5991, 780, 1850, 137, 5741,
+    5827, 3329, 5729, 3665, 5991, 5991, 5991, 5991, 5991, 5991, 5991, 5991, 856, 3, 5991, 5991, 1067, 5991, 5991, 5991,
+    2390, 5991, 3308, 5991, 603, 1291, 1758, 4926, 4000, 506, 933, 4831, 3511, 304, 305, 4251, 3901, 3063, 903, 951,
+    519, 4315, 2460, 4910, 640, 2096, 4193, 3446, 1587, 4280, 2192, 5991, 5991, 5991, 4613, 5991, 5991, 5991, 5991,
+    3401, 5666, 3283, 3220, 2494, 1106, 5847, 4145, 2778, 2065, 4004, 1411, 4335, 5590, 682, 3793, 5326, 183, 4801,
+    1397, 3060, 2854, 5617, 636, 5684, 8, 4115, 881, 1826, 1086, 4470, 5609, 9, 218, 5923, 5528, 4511, 4007, 5991, 5991,
+    5991, 5991, 5991, 5991, 1305, 5991, 5991, 5991, 1919, 1337, 5991, 5991, 358, 1021, 3503, 2022, 5700, 989, 5522,
+    2422, 2828, 4284, 2604, 3626, 4618, 3996, 3755, 5991, 5991, 5472, 3003, 4112, 4934, 4326, 5991, 4535, 4797, 2187,
+    5991, 5192, 3985, 1743, 3207, 188, 5991, 5781, 5991, 3317, 2656, 5991, 5991, 5991, 4327, 5419, 5991, 5991, 2388,
+    5991, 5991, 654, 5991, 564, 1100, 1379, 1335, 4764, 2922, 4416, 5050, 2214, 5991, 5991, 5510, 5991, 5991, 5991,
+    5991, 5991, 2025, 5265, 5991, 5023, 5100, 1383, 242, 1889, 243, 2243, 1053, 5040, 5836, 1604, 5083, 800, 541, 2173,
+    5991, 5991, 5991, 5991, 5991, 5991, 1207, 1372, 179, 4906, 1710, 985, 5991, 5991, 1082, 5991, 5991, 5991, 5991,
+    5991, 5991, 5991, 3825, 374, 5991, 3361, 2863, 4799, 5991, 3981, 5991, 1167, 3638, 267, 5189, 3711, 5769, 1833,
+    5951, 3990, 5851, 4921, 4982, 3045, 3553, 1325, 2818, 5236, 544, 4892, 5991, 5991, 1311, 5991, 1480, 4214, 5357,
+    5422, 1623, 2224, 4198, 2095, 981, 5991, 5991, 2740, 2806, 5991, 2184, 5991, 5871, 450, 231, 2987, 3847, 1511, 3455,
+    3055, 2236, 4393, 2273, 5991, 5455, 5991, 5991, 5231, 1572, 3987, 2646, 3382, 5991, 1727, 5991, 5669, 3865, 5991,
+    4623, 2687, 5991, 5991, 5991, 5991, 5991, 5991, 5991, 5991, 2356, 900, 3067, 5328, 3795, 4343, 652, 5555, 5991,
+    3610, 4240, 537, 5991, 5991, 5991, 4689, 2712, 4629, 5991, 5991, 5991, 5991, 489, 5991, 5991, 5090, 5917, 2516,
+    5991, 5991, 5991, 5991, 5991, 5247, 5991, 2779, 4483, 238, 239, 2980, 5991, 5991, 3539, 4752, 61, 759, 5991, 5991,
+    4202, 4303, 3904, 5991, 5991, 5882, 1225, 2945, 5991, 2450, 4809, 5991, 5991, 5991, 2525, 4841, 122, 5991, 2064,
+    5991, 842, 2128, 5991, 5991, 5991, 4150, 5651, 4857, 5991, 5156, 5535, 5991, 5991, 5991, 2973, 5991, 5267, 5575,
+    3005, 5077, 5991, 5991, 5991, 5991, 5991, 1564, 5263, 5264, 2001, 2057, 2798, 890, 3176, 2556, 1628, 3621, 4726,
+    2894, 3589, 215, 5991, 5991, 5991, 5991, 2857, 4905, 5991, 941, 4143, 106, 2607, 726, 1155, 5991, 286, 5991, 5991,
+    5743, 5991, 3959, 2535, 897, 1734, 1803, 1220, 5750, 4815, 619, 140, 5991,
 };
 
 /* The same by a hash of their octets. */
 CONST_OID_TABLE const uint16_t const_oid_common_octets_by_hash[] = {
-    0, 1, 180, 1211, 1565, 1907, 1019, 2276, 2614, 2874, 1219, 3646, 4686, 2781, 4687, 5587, 2997, 3708, 5972, 5972,
-    5972, 4094, 4095, 5087, 3170, 2700, 3171, 3172, 5088, 5089, 1743, 2453, 5868, 5869, 4279, 5972, 4248, 4249, 4250,
-    5972, 2333, 4139, 2486, 3809, 4140, 5094, 5972, 5972, 4030, 5972, 2211, 3908, 5972, 5972, 2592, 2474, 1111, 1112,
-    1113, 5457, 4750, 5972, 5972, 2356, 5972, 5972, 5972, 5972, 5972, 2202, 5972, 5972, 3134, 5605, 5972, 5972, 1962,
-    1930, 2959, 2974, 3606, 5972, 2325, 3591, 5972, 888, 5972, 5972, 5972, 1253, 5972, 5972, 590, 5972, 1448, 1730,
-    5972, 5972, 5972, 5972, 5972, 5972, 5972, 5972, 5972, 1573, 5972, 5972, 5972, 5972, 4440, 5972, 5972, 3121, 4537,
-    298, 299, 4496, 5972, 5972, 5972, 152, 5856, 1999, 3995, 2539, 5857, 2037, 5633, 1409, 1307, 1603, 2918, 2395, 3060,
-    3931, 2743, 3147, 1228, 3271, 4632, 3195, 3196, 3197, 3198, 1091, 1092, 1093, 2901, 1184, 3295, 3296, 3750, 3924,
-    800, 801, 575, 576, 802, 803, 1438, 1615, 2422, 2824, 3012, 4283, 4512, 5401, 5492, 5493, 1232, 3862, 5623, 3451,
-    1913, 5634, 1002, 5649, 3478, 5767, 5972, 5972, 5972, 5972, 5972, 5972, 2300, 1801, 1836, 2916, 5828, 4046, 5829,
-    5972, 3376, 5972, 2851, 3042, 5972, 5972, 5972, 4645, 4646, 3534, 5972, 5972, 5972, 2466, 2148, 2263, 3513, 2716,
-    2188, 3725, 4318, 1522, 3768, 4319, 1822, 2842, 2960, 3682, 4320, 10, 11, 5500, 5972, 5972, 5972, 5972, 5972, 3673,
-    5972, 5972, 5972, 5691, 5972, 5972, 5972, 5972, 939, 940, 2505, 3486, 5972, 2941, 1504, 2668, 5972, 5972, 3401,
-    1482, 1858, 1704, 4478, 5972, 3800, 1972, 5972, 672, 5972, 5972, 2678, 5972, 5972, 5972, 5972, 4952, 3115, 3562,
-    4953, 4954, 4955, 4956, 4957, 2704, 428, 2734, 3703, 4958, 4959, 4960, 4961, 4962, 4963, 5972, 5972, 5972, 46, 47,
-    1337, 5709, 5972, 5972, 5972, 5972, 5972, 5972, 5972, 5674, 5972, 5972, 1506, 2120, 5972, 5972, 5972, 5972, 3260,
-    5972, 5972, 348, 349, 383, 384, 2883, 3403, 3548, 5934, 5935, 5972, 5972, 5972, 5972, 1355, 5972, 5972, 5972, 5972,
-    2287, 2338, 4347, 4348, 5937, 5972, 5972, 5972, 5972, 5972, 5972, 1478, 4761, 5972, 3090, 3728, 5972, 5972, 5972,
-    5972, 5972, 5972, 2139, 5972, 2619, 1956, 5723, 1548, 1786, 2178, 2984, 5724, 5972, 4332, 2910, 2650, 5558, 2103,
-    5521, 5972, 5972, 5972, 2055, 5972, 5972, 5972, 675, 676, 677, 678, 679, 1208, 87, 2391, 2410, 3395, 2813, 5906,
-    3539, 5907, 5972, 5972, 5972, 5972, 5972, 5972, 5972, 5972, 4819, 5972, 5972, 5972, 5972, 5972, 5972, 601, 5972,
-    1462, 5972, 5972, 5972, 5972, 5972, 5972, 1286, 5972, 5972, 5972, 55, 146, 2690, 5238, 1587, 2859, 3819, 2411, 5081,
-    3645, 1215, 2642, 5082, 5083, 5239, 1051, 1052, 1053, 1878, 2069, 184, 923, 1765, 248, 2470, 3094, 3718, 4114, 5240,
-    1682, 1758, 5241, 5242, 2513, 2048, 2373, 4224, 4225, 4226, 4494, 5243, 5386, 5576, 5682, 5878, 1994, 2171, 5879,
-    5972, 5972, 2107, 5972, 1200, 5972, 4434, 5972, 5972, 5972, 5972, 5972, 5972, 5972, 5972, 3466, 5972, 385, 179, 386,
-    2267, 2387, 5296, 5297, 4427, 5594, 1218, 5972, 5972, 2788, 1380, 110, 2050, 2998, 1897, 3705, 4598, 4599, 4521,
-    2309, 3783, 1248, 4600, 4691, 2005, 4806, 1721, 3421, 5359, 5360, 2230, 5361, 5362, 159, 5950, 5972, 5972, 5972,
-    5184, 5185, 833, 834, 168, 835, 836, 837, 2218, 4505, 4338, 5186, 2597, 2434, 1138, 1139, 1140, 1797, 3844, 3990,
-    5187, 2025, 5443, 5478, 5479, 5972, 1874, 5972, 5972, 1023, 1024, 2556, 2687, 3127, 3603, 5612, 5972, 5972, 2431,
-    3004, 5972, 5972, 5972, 921, 1186, 227, 228, 229, 2543, 5972, 581, 1624, 1458, 3074, 1645, 5972, 5972, 453, 454,
-    5972, 5972, 5972, 5972, 5972, 401, 5972, 5972, 5972, 5972, 2078, 3544, 3117, 5972, 309, 310, 642, 643, 644, 645,
-    646, 647, 648, 649, 650, 1429, 1430, 1808, 1594, 2002, 2038, 138, 2584, 2927, 3045, 3141, 4055, 1224, 4651, 554,
-    1814, 1632, 4652, 2151, 2258, 3518, 3313, 3869, 4653, 3867, 3743, 5435, 5838, 781, 782, 389, 390, 783, 1261, 1288,
-    1441, 2847, 3693, 2245, 5428, 5839, 5942, 5943, 5972, 5972, 3887, 5686, 5972, 191, 1914, 968, 969, 1047, 3450, 1272,
-    3473, 4355, 3877, 4356, 4357, 4358, 1861, 4359, 4360, 4361, 4053, 4937, 1397, 4938, 4939, 4940, 4941, 4942, 4943,
-    5972, 5972, 5972, 5972, 5972, 5972, 4446, 5972, 5972, 5972, 5972, 2729, 3341, 2193, 5972, 1513, 3757, 5972, 5972,
-    266, 3940, 5972, 5972, 5972, 2458, 768, 5972, 5972, 3943, 5972, 5972, 5972, 5972, 5972, 2363, 5661, 5662, 4418,
-    4419, 4420, 988, 989, 4524, 1375, 479, 480, 5663, 326, 327, 328, 1254, 2886, 3551, 1713, 884, 3624, 4017, 4018,
-    1974, 114, 1351, 4019, 2688, 4020, 5972, 5972, 5972, 5972, 3109, 518, 519, 358, 2674, 5794, 3637, 2739, 3638, 1188,
-    5795, 5972, 1497, 5972, 1660, 5972, 5972, 3576, 5972, 5972, 36, 37, 1945, 5463, 5705, 5972, 2748, 5972, 5972, 1379,
-    2096, 2317, 5548, 5776, 557, 558, 1159, 1160, 2121, 3652, 3653, 84, 2951, 4840, 171, 4841, 4842, 4843, 4844, 4845,
-    5777, 5972, 5972, 5972, 2448, 5972, 5972, 2368, 5972, 5972, 5972, 5972, 2339, 5972, 5972, 5655, 5656, 5972, 5972,
-    5972, 5972, 5972, 1480, 5972, 5972, 5972, 3729, 5972, 4536, 5075, 3911, 5076, 5077, 5972, 5972, 5718, 5719, 5972,
-    5972, 1541, 5972, 5972, 5972, 5972, 5565, 2913, 2643, 5972, 5972, 5972, 845, 2127, 5972, 5972, 3897, 5972, 4100,
-    707, 708, 709, 4303, 5972, 5972, 1677, 5972, 1753, 4745, 2523, 4746, 4747, 3696, 5920, 3506, 5921, 5972, 5972, 5972,
-    5972, 5972, 5972, 5972, 5972, 5972, 5972, 5972, 3498, 3031, 5972, 1473, 2380, 5972, 5972, 5972, 52, 5972, 5972,
-    5972, 5972, 5972, 2610, 5244, 4804, 5245, 1555, 2870, 102, 103, 457, 1020, 3155, 1312, 3649, 2785, 5246, 5247, 5248,
-    3786, 1879, 5249, 5460, 5583, 1772, 1537, 2407, 369, 488, 4491, 5393, 1691, 1732, 3428, 5860, 2508, 5861, 3076,
-    3853, 4263, 4264, 4265, 4324, 5972, 5972, 5972, 3082, 2162, 5972, 5972, 5972, 5972, 2215, 5025, 1274, 5026, 5972,
-    5972, 5808, 5809, 5972, 5972, 4000, 5972, 5466, 5972, 5972, 3251, 3252, 5972, 1361, 1821, 2198, 2532, 2559, 3813,
-    5601, 5972, 2133, 1866, 2799, 2971, 2991, 3033, 3715, 5957, 2264, 896, 897, 898, 899, 900, 3776, 4569, 4570, 5972,
-    1718, 5972, 5972, 5972, 5972, 5972, 5972, 2279, 156, 5972, 76, 5972, 5219, 2484, 5220, 5221, 5222, 5223, 5224, 5225,
-    4541, 289, 290, 4508, 5972, 5972, 5972, 1790, 5848, 5849, 3999, 4791, 5759, 5760, 5630, 1599, 2631, 3812, 3056,
-    2414, 5972, 5972, 1058, 2747, 3128, 4636, 5452, 3243, 5619, 5972, 4698, 2905, 1104, 1041, 1105, 1106, 2579, 3023,
-    3304, 3305, 2836, 2940, 1619, 3008, 4699, 26, 27, 1433, 1588, 5397, 5972, 5972, 2756, 5966, 273, 274, 275, 444, 445,
-    1575, 194, 2817, 3455, 4925, 3482, 4926, 2626, 4927, 4928, 4929, 4930, 5972, 5820, 1848, 5821, 5972, 5972, 2032,
-    5972, 1392, 1294, 5680, 3038, 5972, 5972, 5972, 5972, 5972, 5972, 3889, 5972, 254, 255, 256, 257, 1641, 2144, 2720,
-    3329, 1180, 2184, 1526, 3330, 3509, 3686, 3764, 3920, 5659, 5660, 5972, 5972, 5972, 5972, 5972, 5972, 5972, 5972,
-    5972, 5972, 5972, 5972, 5695, 5972, 4406, 149, 4407, 947, 3675, 3490, 4388, 4389, 4390, 2664, 3161, 5972, 5972,
-    5972, 1854, 5972, 5972, 5972, 4048, 3839, 5972, 5972, 1582, 1352, 5972, 5972, 5972, 5972, 5972, 5972, 5972, 3111,
-    4132, 4133, 4134, 4135, 4136, 3527, 2738, 1484, 4137, 5972, 1512, 1500, 5972, 1941, 3569, 5972, 5972, 5972, 5972,
-    3974, 3629, 5713, 5972, 5972, 5972, 4451, 79, 80, 4295, 2364, 4838, 5670, 5972, 5972, 5972, 970, 971, 5972, 5972,
-    5972, 2636, 1344, 334, 335, 2879, 2946, 5972, 3433, 1706, 5972, 5972, 5972, 5972, 1164, 1295, 1966, 5972, 5972,
-    5972, 1268, 2291, 2350, 5069, 5070, 5071, 5972, 5972, 5972, 5972, 5972, 5972, 5972, 5093, 5972, 3740, 5972, 5972,
-    5972, 5972, 5972, 1281, 1833, 3885, 3891, 5972, 1952, 4477, 5972, 1782, 2681, 2659, 5972, 5972, 2087, 5555, 2654,
-    123, 3065, 4534, 872, 873, 874, 875, 876, 2059, 2114, 693, 694, 695, 696, 697, 698, 90, 1672, 2236, 2695, 3343,
-    3344, 3345, 4522, 4734, 4735, 4736, 3187, 3188, 3871, 4737, 4738, 4755, 5100, 5101, 5102, 3583, 5103, 2101, 1364,
-    2440, 4802, 3265, 3266, 3267, 5731, 5930, 5931, 5972, 5972, 1256, 5972, 5972, 5292, 1302, 5293, 1542, 2855, 5972,
-    5972, 5972, 5572, 5972, 373, 5972, 5972, 412, 413, 414, 3796, 1896, 2073, 5972, 927, 4120, 4121, 4297, 1245, 5379,
-    5380, 3611, 1686, 1762, 3415, 5902, 5903, 5967, 5972, 1890, 4237, 4238, 4239, 4240, 4241, 5972, 5972, 5972, 5972,
-    5972, 5972, 435, 3069, 5972, 321, 322, 1275, 3656, 5972, 2500, 5972, 5972, 5972, 5972, 3383, 3384, 3385, 5972, 2271,
-    5972, 1904, 5972, 2203, 2219, 1012, 2549, 4667, 4668, 4669, 4670, 2792, 3032, 4671, 2994, 3275, 3276, 3277, 3709,
-    933, 3710, 3779, 3902, 4088, 4089, 4090, 4091, 4092, 1740, 4093, 4517, 5097, 5343, 5344, 3852, 4166, 4167, 4168,
-    2330, 2403, 2934, 3804, 814, 815, 816, 817, 818, 2370, 4169, 3841, 3907, 4170, 2593, 2452, 1119, 1120, 1121, 1122,
-    3677, 4171, 4172, 2021, 4173, 4174, 5204, 5205, 3026, 2563, 5206, 5207, 2552, 2683, 3139, 5208, 3607, 1867, 2977,
-    5209, 5210, 5211, 1657, 5345, 4554, 895, 1193, 4555, 5346, 5590, 5608, 3632, 5678, 5972, 5972, 1455, 1727, 5972,
-    5972, 5972, 5972, 5972, 5972, 5972, 5972, 5972, 1568, 5972, 5972, 5972, 2478, 2082, 5972, 4447, 5972, 300, 301,
-    1077, 1078, 1079, 1203, 4499, 5830, 1998, 3992, 5831, 5972, 2034, 5972, 5972, 5972, 3926, 2923, 3057, 5972, 5972,
-    5972, 3152, 3879, 1900, 3272, 3222, 3223, 1628, 2527, 2806, 3224, 2985, 3273, 3274, 3323, 2227, 3324, 3514, 2827,
-    3015, 579, 1610, 3755, 1437, 2367, 4481, 4659, 5408, 5635, 5636, 2757, 5642, 95, 5972, 1231, 5690, 5972, 5972, 187,
-    3088, 3454, 5972, 3477, 5972, 2634, 5972, 3826, 5972, 5972, 5972, 5972, 1806, 1841, 5972, 5972, 4041, 4615, 1401,
-    4616, 366, 4617, 4618, 4619, 5972, 5972, 5972, 132, 1935, 5972, 5972, 5972, 2463, 4315, 2260, 3532, 2717, 4316,
-    2189, 4317, 1517, 3362, 3363, 2845, 3364, 3365, 3366, 2383, 2574, 6, 7, 3367, 3765, 3979, 4454, 4817, 5972, 5972,
-    5972, 1239, 5972, 5972, 5972, 5972, 5972, 994, 5972, 4528, 3485, 471, 472, 3618, 660, 661, 662, 5972, 1481, 1855,
-    1701, 3698, 5063, 5064, 5065, 1971, 3024, 5972, 2956, 5972, 5972, 5972, 5972, 5972, 4601, 4602, 5972, 2381, 5972,
-    5972, 5972, 5972, 5972, 5972, 5972, 5972, 5972, 1492, 5972, 1663, 5972, 5972, 5972, 1826, 5972, 42, 43, 1336, 3034,
-    4724, 4725, 2752, 4726, 4727, 4728, 553, 4729, 4730, 1590, 1915, 2547, 1059, 1060, 1061, 1062, 1063, 2117, 2526,
-    346, 347, 381, 382, 4731, 5455, 5544, 5972, 5972, 5972, 5972, 5972, 1300, 2077, 2221, 5972, 5972, 5972, 1715, 2284,
-    437, 5972, 343, 5972, 5972, 5972, 5972, 5972, 5505, 1479, 1560, 1476, 3843, 5972, 5972, 5972, 5972, 5972, 1280,
-    5972, 2134, 5972, 5972, 5972, 5972, 2181, 1553, 5972, 5972, 5972, 5972, 5561, 2909, 2647, 5972, 5972, 5972, 858,
-    859, 860, 2052, 3827, 5972, 929, 737, 378, 133, 379, 738, 739, 740, 741, 742, 743, 744, 1681, 2427, 2519, 2802,
-    5471, 5472, 5912, 5913, 4005, 4006, 5135, 1494, 5136, 3587, 5137, 5138, 5139, 5140, 604, 1367, 1469, 3668, 5141,
-    5972, 5972, 5972, 5972, 5972, 5972, 5972, 5972, 145, 2606, 5972, 5972, 1655, 2866, 5972, 5972, 5751, 5579, 5752,
-    5972, 5972, 5523, 5972, 877, 5972, 5972, 533, 534, 2066, 3097, 1768, 4074, 4075, 483, 2492, 4076, 4077, 1695, 1736,
-    2530, 3408, 2512, 2100, 4306, 4219, 3857, 4220, 4221, 4222, 4223, 4307, 4327, 4487, 2166, 4493, 4585, 4586, 3072,
-    2225, 4832, 5170, 215, 216, 5171, 5172, 4483, 5173, 3937, 936, 2815, 4004, 5174, 5389, 2266, 5469, 1650, 1788, 2572,
-    2516, 1011, 5490, 5491, 5597, 5884, 5885, 5951, 5960, 5961, 2986, 2987, 4914, 4915, 4563, 906, 4564, 353, 2312,
-    1386, 3089, 527, 528, 458, 459, 1722, 2375, 2772, 3426, 3772, 3947, 4217, 160, 4916, 4917, 5370, 5371, 5372, 828,
-    829, 830, 163, 831, 832, 5962, 280, 281, 4504, 5972, 5972, 5972, 5972, 1794, 5972, 3987, 5972, 1213, 2015, 2362,
-    3441, 1304, 5624, 1871, 1509, 5625, 5972, 5972, 434, 5615, 5972, 3600, 3231, 3, 3232, 2428, 3233, 5972, 1045, 3959,
-    916, 3960, 234, 235, 3961, 2832, 2894, 584, 1623, 3259, 32, 33, 4012, 4274, 5416, 5417, 5972, 5972, 5972, 5972,
-    5972, 1579, 430, 5972, 5972, 5972, 5972, 1005, 2079, 4606, 4607, 4608, 5972, 5972, 5972, 5972, 5972, 5844, 1809,
-    1844, 3102, 3030, 2028, 3103, 1411, 139, 1597, 3050, 3391, 1985, 5679, 5845, 3145, 4650, 5972, 5972, 612, 5972,
-    1637, 2156, 2255, 3521, 624, 625, 626, 2576, 1530, 3334, 3335, 3336, 3690, 3748, 4815, 5972, 1444, 1923, 2372, 5972,
-    5972, 5972, 5972, 5972, 5972, 5972, 5972, 1230, 5972, 5972, 5972, 3445, 3670, 953, 954, 3494, 4372, 4373, 4374,
-    5057, 5058, 5059, 5972, 5972, 5972, 3567, 2766, 5972, 202, 3870, 1398, 1977, 4052, 5972, 5972, 5972, 5972, 5972,
-    5972, 1917, 5972, 5972, 3858, 5972, 5972, 5972, 5972, 3523, 2726, 5498, 4716, 4717, 1516, 2568, 3377, 1937, 3760,
-    4718, 4719, 5972, 5972, 2455, 1328, 3970, 5972, 5972, 5972, 5972, 66, 67, 68, 1235, 2175, 2321, 2967, 1959, 3661,
-    978, 979, 5666, 3614, 5955, 5972, 5972, 5972, 3554, 2891, 4016, 5972, 5972, 1710, 879, 3502, 5972, 5972, 249, 250,
-    2850, 5454, 456, 5972, 5972, 5972, 2346, 5972, 5972, 5972, 512, 357, 513, 3461, 5792, 1627, 2969, 5793, 5972, 5972,
-    3736, 1989, 5972, 5972, 4331, 3895, 5972, 374, 5972, 5699, 418, 419, 1948, 1778, 5700, 96, 5972, 5013, 2091, 5014,
-    5015, 2546, 5551, 5771, 2110, 5972, 5972, 2063, 2240, 2624, 5972, 5972, 5972, 5972, 5972, 5972, 5972, 5972, 5972,
-    5972, 5922, 5923, 4464, 1209, 5972, 5972, 5972, 5972, 4822, 4823, 5972, 5120, 5121, 5122, 5123, 5124, 5125, 5126,
-    5127, 504, 505, 5445, 5972, 2416, 5972, 3635, 5972, 117, 2132, 1177, 3904, 5421, 5972, 5972, 5278, 5279, 5280, 5281,
-    5282, 5972, 5972, 490, 491, 2280, 1653, 2644, 5517, 2714, 5568, 1816, 3793, 1886, 4784, 4785, 4786, 729, 730, 731,
-    154, 732, 733, 734, 735, 736, 1674, 1750, 2524, 3411, 4301, 1894, 4302, 4787, 4788, 5434, 5761, 5154, 5155, 2008,
-    2779, 5156, 5157, 5762, 5790, 2303, 313, 314, 5791, 5894, 5895, 2433, 2496, 5972, 5972, 5972, 5972, 5972, 5972,
-    1340, 2275, 2615, 1908, 1580, 2873, 5972, 1017, 1018, 3647, 4683, 1311, 4684, 4685, 5586, 5972, 5972, 5972, 5972,
-    5972, 5972, 5972, 5972, 5972, 5325, 1385, 3173, 5326, 5327, 5328, 1744, 3429, 462, 5329, 4278, 5866, 4245, 4246,
-    3536, 4247, 2334, 2938, 2487, 3808, 4125, 5867, 2161, 5972, 4293, 4029, 2210, 5972, 5972, 5972, 5972, 2480, 1109,
-    1110, 5802, 5803, 5972, 5972, 5972, 2355, 5972, 5972, 5676, 5972, 1360, 1798, 2201, 5972, 3135, 5494, 5495, 5604,
-    5972, 217, 1929, 5972, 5972, 5972, 2326, 5972, 5972, 905, 5972, 3773, 5972, 5972, 5972, 5972, 589, 5972, 5972, 1451,
-    1731, 5972, 5972, 5972, 5972, 5972, 5972, 5972, 5972, 5972, 1572, 5972, 5972, 5972, 4441, 5972, 4291, 3122, 5972,
-    291, 292, 5972, 5972, 5972, 5972, 151, 1791, 5854, 3996, 2540, 4835, 2016, 5632, 1410, 1602, 3930, 2919, 245, 1991,
-    2399, 2742, 3053, 1227, 3148, 3872, 3199, 3200, 3201, 3202, 2900, 1094, 1095, 1096, 1097, 3203, 3204, 3293, 3294,
-    796, 797, 798, 574, 799, 1432, 22, 23, 1614, 1625, 2423, 2906, 3011, 1170, 3751, 438, 439, 2957, 2818, 3861, 3458,
-    3921, 1004, 3633, 3481, 4631, 4693, 5051, 5052, 5053, 5404, 5622, 2299, 1802, 1837, 5768, 5826, 4045, 5827, 5855,
-    1293, 5972, 3043, 5972, 5972, 4709, 4710, 5972, 4642, 4643, 4644, 5972, 5972, 563, 2149, 2467, 3512, 2721, 3332,
-    2185, 3333, 1521, 3919, 5501, 2841, 1608, 2823, 2968, 3683, 5972, 5972, 5972, 5972, 5972, 5972, 5972, 5972, 3674,
-    5972, 5972, 4799, 4800, 5692, 4402, 4403, 4404, 937, 938, 2506, 3489, 4394, 4395, 1503, 2667, 1321, 4405, 3402,
-    5972, 1851, 1705, 5972, 203, 5972, 5972, 1980, 5972, 5972, 5972, 5972, 5972, 5972, 5972, 5972, 5972, 3116, 3561,
-    4126, 4127, 4128, 4129, 4130, 2731, 429, 1486, 3702, 4131, 1326, 5972, 5972, 5007, 5008, 5009, 5972, 5972, 5972,
-    1331, 5710, 5972, 5972, 5972, 4450, 69, 70, 71, 4294, 5972, 5673, 5972, 1532, 1145, 976, 977, 1146, 1147, 5099,
-    2943, 5972, 331, 332, 333, 2884, 3547, 5858, 5859, 5972, 5972, 5972, 3935, 5972, 5972, 5972, 5972, 5972, 5972, 5972,
-    2288, 2347, 5936, 2105, 5972, 5972, 5972, 5972, 5972, 2801, 5972, 1477, 1564, 5972, 5972, 3737, 5972, 5972, 5972,
-    2942, 5972, 5972, 2138, 3431, 2620, 1955, 5725, 2177, 1549, 1787, 4778, 3005, 4779, 2086, 4780, 2651, 4781, 2320,
-    3573, 866, 5557, 5726, 2056, 5972, 5972, 4511, 5972, 5972, 5972, 3396, 5972, 5972, 593, 1669, 2392, 3575, 2812,
-    5972, 1301, 3538, 5972, 5972, 5972, 5972, 5763, 5972, 2588, 5972, 5972, 5972, 5972, 5433, 5972, 5972, 2437, 594,
-    595, 596, 597, 598, 599, 600, 663, 664, 1144, 1465, 3630, 3903, 54, 2602, 2691, 4896, 1646, 2862, 3822, 2412, 4897,
-    3642, 4898, 2657, 4899, 4900, 4901, 5283, 1048, 1049, 1050, 1887, 198, 922, 2070, 3093, 3381, 3382, 3794, 4104,
-    4105, 199, 1683, 1755, 3404, 4106, 2049, 3007, 3880, 4107, 4108, 4109, 4110, 4111, 4112, 4113, 2878, 1995, 2170,
-    4232, 4233, 3068, 2131, 393, 4234, 4235, 4236, 5095, 5284, 5285, 5286, 5287, 1039, 5385, 4758, 1257, 2581, 3467,
-    178, 1901, 2270, 2495, 3824, 1016, 4759, 4662, 4663, 4664, 4665, 4666, 2791, 109, 2999, 3278, 1898, 3279, 3280,
-    3281, 3282, 3283, 2308, 3284, 1205, 3706, 211, 3784, 4518, 1741, 3422, 5298, 5299, 5300, 4159, 4160, 4161, 4162,
-    4163, 2931, 3346, 2314, 811, 812, 813, 167, 3347, 2709, 2217, 3348, 3798, 4164, 4165, 137, 1133, 1134, 1135, 1136,
-    1137, 2435, 3991, 2026, 4442, 5355, 5356, 5357, 5358, 5480, 5481, 1022, 2557, 2686, 3136, 4640, 3604, 4641, 1928,
-    1643, 2432, 5511, 5513, 5575, 5593, 920, 5611, 224, 225, 226, 1501, 5743, 580, 5744, 5876, 1457, 5877, 5972, 5972,
-    451, 452, 4544, 3388, 3389, 3390, 4545, 1567, 408, 5972, 5972, 5972, 5972, 2083, 5972, 5972, 5972, 311, 312, 633,
-    634, 635, 636, 637, 638, 639, 640, 641, 1065, 1066, 1067, 1068, 1315, 1415, 141, 1426, 1427, 526, 1428, 1225, 1593,
-    1961, 2001, 2039, 1633, 2152, 2259, 2585, 2924, 3046, 3160, 3206, 3207, 3208, 3209, 777, 778, 779, 780, 1609, 1260,
-    1440, 1716, 1035, 2778, 2246, 2160, 2830, 3210, 3211, 92, 3312, 3517, 3744, 3868, 3449, 192, 963, 964, 965, 966,
-    967, 3593, 3888, 3876, 1322, 3925, 4336, 4337, 4514, 2762, 4516, 4040, 4658, 1402, 4798, 362, 5411, 5424, 5643,
-    5644, 5645, 5687, 120, 5836, 5837, 5004, 3855, 5005, 5006, 5509, 5972, 2730, 5972, 5972, 5972, 1520, 3758, 5972,
-    5972, 5972, 5972, 5972, 5972, 5972, 2459, 3025, 5972, 5972, 3942, 2682, 5972, 5972, 5972, 1377, 5972, 2963, 3657,
-    3658, 3459, 4415, 986, 987, 4416, 3837, 477, 478, 4417, 4525, 5972, 2887, 3006, 5972, 5972, 1698, 883, 2226, 3594,
-    3701, 5972, 5972, 5972, 5972, 436, 2699, 5972, 5972, 5972, 5972, 5972, 5972, 520, 361, 521, 2675, 5972, 5972, 5972,
-    5972, 4769, 4770, 1498, 4771, 4772, 4773, 4774, 5972, 5972, 1825, 38, 39, 1338, 1944, 4058, 5706, 5972, 5972, 5972,
-    2318, 2095, 1240, 4345, 4346, 555, 556, 1156, 1157, 1056, 1057, 1158, 1538, 82, 2122, 2952, 1581, 3565, 5525, 2573,
-    3392, 5526, 5527, 3722, 5528, 2449, 4460, 5547, 5778, 5779, 5972, 4881, 4882, 2281, 242, 243, 244, 342, 668, 2340,
-    4883, 3803, 4884, 4885, 4886, 4887, 4888, 3730, 51, 5971, 5972, 3912, 1173, 5972, 5972, 5972, 5972, 5720, 5972,
-    2180, 1550, 5972, 5972, 5972, 496, 497, 5564, 1309, 2648, 2912, 5972, 839, 840, 841, 842, 843, 844, 931, 2128, 758,
-    759, 760, 761, 762, 3830, 1678, 1754, 3899, 2520, 2803, 4102, 4103, 5918, 5919, 5972, 5972, 5972, 5972, 4830, 5972,
-    5972, 5972, 670, 5972, 5972, 5972, 3501, 5972, 2599, 5972, 1472, 5972, 5972, 5972, 5972, 5972, 5972, 5972, 5972,
-    5972, 5972, 2611, 5250, 5251, 1556, 2869, 100, 101, 3156, 5252, 5253, 5254, 5255, 5256, 2784, 5257, 5582, 5972,
-    1880, 3787, 5972, 3096, 4071, 1771, 2408, 368, 3168, 4072, 4073, 1692, 5396, 1733, 460, 3409, 2075, 5461, 3982,
-    4258, 4259, 4260, 4261, 4262, 5972, 5972, 5972, 5972, 2165, 5972, 5972, 5972, 2214, 1371, 5972, 5972, 5972, 5972,
-    5972, 5810, 5811, 3938, 4001, 5972, 5972, 118, 5972, 1870, 3253, 3254, 1763, 2197, 3255, 1032, 1033, 2536, 3664,
-    1992, 3084, 5458, 2798, 5600, 2992, 5972, 3590, 3712, 5972, 2601, 5972, 3769, 5972, 1249, 5367, 5368, 5369, 2374,
-    5972, 1719, 5972, 5972, 5444, 5972, 4211, 2294, 157, 4212, 5972, 77, 4701, 4702, 5972, 5972, 5972, 1507, 995, 5972,
-    4540, 282, 283, 284, 4507, 5972, 5972, 5972, 1795, 2397, 5846, 5847, 5972, 5972, 3104, 1598, 1306, 2632, 1872, 3105,
-    3811, 3934, 2746, 3129, 4635, 5618, 5628, 4548, 4796, 5629, 5646, 5764, 2904, 1040, 2580, 3301, 3302, 240, 241,
-    3303, 97, 2821, 1618, 587, 2835, 5400, 28, 29, 1589, 2564, 5423, 5449, 5464, 5652, 276, 277, 1574, 415, 5653, 5972,
-    5972, 195, 5972, 4285, 5437, 5972, 5972, 5972, 5972, 5972, 402, 403, 404, 5818, 1849, 4543, 5819, 2033, 2471, 1393,
-    4475, 4987, 3039, 4988, 4989, 4990, 4991, 4992, 4993, 4994, 4995, 4996, 4997, 1642, 2145, 4998, 3018, 3508, 4999,
-    1179, 5000, 1525, 3745, 5972, 5972, 3687, 3945, 5418, 3654, 5972, 16, 17, 5972, 5972, 2247, 3158, 3159, 5972, 5972,
-    5972, 5972, 5972, 5972, 4414, 5972, 2235, 945, 946, 2174, 3493, 4385, 4386, 4387, 3875, 5972, 5972, 5972, 5972,
-    5972, 5972, 2769, 4047, 5972, 3838, 1976, 1583, 1354, 5972, 2753, 5972, 5972, 5972, 1924, 5972, 3112, 5972, 5972,
-    5972, 5972, 3064, 3526, 2707, 2735, 5972, 5972, 1511, 2565, 5972, 1958, 3564, 5972, 5972, 4330, 1461, 5972, 838,
-    3973, 5972, 5972, 5972, 5972, 5972, 5972, 5972, 2379, 1559, 5669, 4590, 2043, 4591, 984, 985, 2252, 3615, 4592,
-    2947, 4593, 4594, 5972, 2880, 4864, 4865, 4866, 671, 1707, 3442, 4867, 4868, 251, 252, 1165, 1357, 1417, 1969, 4869,
-    2292, 2343, 4870, 5788, 5789, 506, 507, 5972, 5972, 5972, 5972, 5972, 5972, 5972, 5972, 3733, 5972, 1990, 5972,
-    5972, 1284, 3892, 1832, 5972, 5972, 1951, 5972, 5972, 1783, 2436, 2658, 2680, 5972, 2090, 5554, 2655, 3066, 3184,
-    5772, 867, 868, 869, 870, 871, 2060, 2115, 688, 689, 690, 691, 692, 2623, 2696, 89, 1673, 3342, 4533, 4627, 5773,
-    5774, 5928, 5929, 5972, 3189, 5698, 5972, 5972, 5972, 5972, 5972, 1383, 5972, 3584, 5972, 2102, 2441, 5972, 5972,
-    5972, 5972, 5972, 5972, 5972, 5972, 5972, 5972, 5972, 5972, 3542, 5269, 5270, 5271, 1543, 2858, 3818, 5972, 5972,
-    5571, 5972, 372, 5972, 5972, 2775, 2129, 5972, 5972, 1883, 2074, 3790, 926, 4118, 4119, 5376, 1247, 5377, 5378,
-    3623, 1687, 5972, 1759, 3416, 5900, 5901, 5972, 5972, 1891, 5972, 5972, 5972, 5972, 5972, 5972, 2009, 5972, 5972,
-    5972, 5972, 5972, 5972, 323, 324, 5972, 5042, 5043, 2501, 2388, 5044, 5972, 5972, 5972, 5972, 1258, 3205, 5972, 182,
-    1905, 2274, 2872, 5972, 2560, 5972, 4680, 4681, 1313, 4682, 5589, 2795, 3062, 2995, 5948, 3711, 5949, 5972, 932,
-    1194, 3780, 4087, 3169, 4573, 4574, 4575, 4484, 4576, 1745, 5339, 539, 540, 541, 542, 2231, 3851, 4191, 2331, 2935,
-    4059, 4060, 4192, 4193, 2371, 4194, 4195, 4028, 4196, 3840, 4197, 4198, 4277, 2461, 1115, 1116, 1117, 1118, 2594,
-    2970, 3676, 1776, 467, 468, 2022, 2354, 3665, 4795, 5200, 1027, 5201, 2553, 1221, 3132, 3608, 1868, 1932, 5202,
-    5203, 5340, 5341, 5342, 5484, 891, 892, 893, 894, 3086, 4556, 4557, 4558, 592, 4559, 1454, 1724, 4560, 5485, 5512,
-    2142, 5607, 3671, 5677, 5684, 5737, 1571, 5738, 5872, 5873, 2479, 5972, 4971, 4453, 4972, 4502, 302, 303, 1080,
-    1081, 1082, 150, 421, 1083, 4973, 3993, 4974, 2035, 4975, 1404, 1605, 3929, 2920, 3058, 4976, 4977, 4978, 3153,
-    1223, 3292, 3883, 4628, 4629, 1629, 4630, 4979, 2899, 3918, 3321, 3322, 4625, 3756, 4626, 5407, 2826, 5436, 1613,
-    578, 3950, 1436, 4482, 4824, 4825, 5972, 5972, 5972, 2758, 3028, 5972, 440, 441, 5972, 5972, 5429, 1911, 188, 3453,
-    5972, 5972, 3476, 2639, 5972, 1343, 5972, 5972, 5972, 2298, 3036, 1803, 1842, 3434, 4044, 4549, 1390, 5972, 365,
-    5972, 5972, 5972, 5972, 5972, 5972, 5972, 5972, 5972, 5972, 5972, 4312, 2146, 2261, 2464, 2718, 3531, 2190, 4313,
-    1524, 3766, 4314, 2844, 5972, 48, 49, 50, 1264, 2384, 1332, 2396, 3375, 3978, 4812, 4813, 5419, 5972, 5972, 5972,
-    4847, 4848, 4424, 4849, 4850, 993, 4851, 4852, 3484, 469, 470, 3619, 4529, 1320, 4853, 4, 3399, 1856, 4854, 1702,
-    3697, 4855, 3810, 1970, 5972, 5972, 5972, 2663, 5972, 5972, 769, 770, 771, 3113, 5972, 2671, 5090, 5091, 5092, 5972,
-    5972, 1485, 5972, 5972, 5972, 1493, 5972, 5972, 5972, 3983, 5972, 5972, 1829, 5972, 1335, 3037, 5972, 5972, 4551,
-    2751, 5972, 5972, 5972, 2099, 5543, 5972, 209, 5972, 5972, 2118, 5972, 5972, 5972, 3263, 3264, 4751, 4752, 340, 174,
-    341, 3550, 5972, 5972, 5972, 5972, 3984, 5972, 3799, 1298, 1299, 2222, 5972, 5972, 5972, 3087, 2285, 446, 2336,
-    5959, 5972, 5972, 5972, 1983, 5972, 5972, 5506, 5800, 5801, 1475, 1327, 5972, 5972, 5972, 5972, 5972, 1279, 5972,
-    5972, 5972, 2617, 5721, 2176, 1546, 1784, 5722, 5972, 5972, 5560, 5972, 5972, 2652, 5972, 5972, 5972, 854, 855, 856,
-    857, 2053, 5972, 5972, 376, 377, 685, 686, 687, 2389, 88, 3922, 5910, 5911, 246, 247, 2208, 3541, 5972, 5972, 5033,
-    5034, 5035, 5036, 5037, 5038, 5972, 5972, 5972, 3585, 5972, 5972, 603, 1201, 1365, 1468, 5972, 5972, 5972, 5972,
-    5972, 5972, 3951, 5972, 5972, 57, 144, 2607, 5226, 1656, 2865, 108, 5227, 3166, 5228, 3639, 5229, 3609, 5230, 5231,
-    5578, 5749, 5750, 531, 532, 1876, 1196, 2067, 1767, 3092, 2493, 4080, 4081, 4082, 1696, 4488, 1737, 3405, 2511,
-    5392, 2044, 4218, 3849, 5882, 5883, 2533, 5972, 5162, 5163, 5164, 3079, 2169, 5165, 5166, 1764, 3071, 2250, 5167,
-    5168, 5169, 5470, 5972, 5972, 5972, 5972, 887, 5972, 5972, 4056, 3464, 5972, 5972, 2577, 5972, 5972, 5972, 1010,
-    2517, 5596, 3831, 5972, 5972, 5972, 5972, 5972, 2988, 5972, 3716, 5972, 5972, 4565, 5972, 3781, 352, 2311, 3174,
-    1347, 3175, 2378, 2773, 1723, 3176, 3423, 4964, 4965, 4215, 4216, 161, 4966, 4967, 2932, 4968, 431, 824, 825, 826,
-    484, 827, 997, 2710, 4503, 4969, 4970, 5196, 5197, 5198, 5199, 5351, 5352, 5353, 3846, 3438, 2023, 2361, 3988, 2628,
-    5354, 3061, 5757, 5758, 5972, 5972, 2554, 3125, 4639, 5614, 5972, 3234, 3235, 2429, 3002, 3236, 4032, 1044, 5972,
-    5972, 232, 233, 5972, 2831, 5972, 1622, 583, 1423, 5972, 5972, 5972, 4273, 5972, 5972, 5972, 5972, 5972, 5972, 5972,
-    1578, 4762, 4763, 4764, 5972, 5972, 2080, 3120, 5972, 5972, 1271, 5972, 5972, 2896, 5972, 5972, 5842, 1810, 1845,
-    3100, 3101, 2029, 5843, 1412, 1596, 5972, 3051, 2582, 1988, 5972, 5972, 3146, 4649, 5972, 5972, 5972, 4808, 1638,
-    2157, 2256, 2405, 622, 623, 1181, 3319, 1529, 3320, 3520, 3741, 784, 785, 394, 786, 787, 1447, 1922, 3691, 4809,
-    4820, 5410, 4513, 5972, 5972, 5972, 5972, 5972, 5685, 5972, 3444, 189, 951, 952, 4369, 3497, 3906, 4370, 4371, 5972,
-    5972, 5972, 5972, 5972, 1859, 3566, 2765, 4051, 2042, 3865, 1399, 5084, 5085, 5086, 5972, 5972, 1889, 2462, 1918,
-    4473, 5972, 5972, 5972, 4445, 5972, 3393, 3522, 2723, 5972, 1190, 5972, 2569, 1515, 3761, 1938, 5972, 268, 5972,
-    2385, 1262, 5972, 772, 773, 2456, 5972, 5972, 4748, 4749, 5954, 5972, 2324, 5972, 3662, 5665, 4695, 2012, 992, 4696,
-    4697, 5972, 5972, 5972, 5972, 5972, 2109, 2892, 3553, 4015, 2322, 2507, 1711, 3503, 5972, 5972, 1965, 5972, 5972,
-    5972, 5972, 5972, 4807, 5972, 5972, 5972, 5972, 5972, 514, 356, 515, 2676, 3460, 5972, 2979, 5972, 5972, 5972, 1325,
-    1495, 5972, 5972, 5972, 5972, 3578, 3182, 34, 35, 1947, 4057, 5701, 1779, 2750, 5702, 5972, 2315, 5550, 2094, 4343,
-    124, 125, 126, 206, 207, 2111, 2420, 2064, 2239, 2494, 2545, 3374, 173, 3185, 130, 3186, 4344, 4458, 5030, 5031,
-    5032, 2446, 4465, 5439, 5780, 5781, 5972, 5972, 5972, 5972, 5116, 5117, 5118, 5119, 5431, 5972, 5972, 5972, 5972,
-    5972, 5972, 5972, 2417, 5972, 5972, 5972, 2141, 3905, 1174, 5972, 5972, 5972, 5972, 5714, 5715, 5972, 1539, 2854,
-    5972, 5972, 492, 493, 498, 499, 1652, 2645, 2805, 2125, 1817, 2982, 3981, 4456, 3543, 5567, 5972, 714, 715, 162,
-    716, 717, 718, 719, 720, 721, 722, 723, 724, 725, 726, 727, 728, 1675, 1747, 2711, 3412, 3694, 4300, 4792, 2800,
-    4793, 5146, 5147, 5148, 315, 316, 1368, 1471, 5149, 2497, 1038, 2482, 5150, 5151, 5152, 2929, 3435, 5153, 2616,
-    5892, 5893, 1586, 2868, 4470, 5972, 5972, 5585, 5972, 1310, 5972, 5972, 2783, 5972, 5972, 5972, 5972, 5972, 4944,
-    4587, 3966, 3967, 4097, 1244, 367, 2702, 4098, 397, 398, 1734, 3430, 4099, 4281, 4489, 4254, 4255, 4256, 4257, 4588,
-    2939, 2488, 3807, 4945, 4946, 4947, 4948, 4949, 4292, 4950, 2209, 4951, 5315, 5316, 2481, 5317, 5318, 5319, 5320,
-    5321, 5322, 5323, 115, 116, 2358, 2983, 5324, 1813, 2200, 2980, 5420, 5675, 5603, 3825, 5804, 5805, 1864, 2797,
-    2976, 3246, 3247, 2327, 4589, 5864, 902, 903, 904, 3774, 4552, 4553, 5865, 5972, 588, 2774, 1450, 1728, 4760, 5972,
-    5972, 4206, 4207, 4208, 4209, 4210, 5972, 5972, 5972, 5972, 5972, 5972, 5972, 5972, 3123, 4290, 4498, 293, 294, 295,
-    4539, 5972, 5972, 1792, 5852, 5853, 3997, 5972, 2017, 463, 464, 1308, 1407, 1601, 2404, 1996, 2415, 2633, 2741,
-    3054, 3149, 3933, 4634, 3237, 3238, 3239, 4846, 1098, 1099, 1100, 1183, 910, 2903, 3752, 5403, 2838, 792, 793, 573,
-    794, 795, 24, 25, 1431, 1617, 1626, 2424, 2754, 2914, 278, 279, 3014, 1419, 1420, 1421, 1422, 2819, 58, 1003, 3457,
-    3480, 2600, 3860, 5078, 5079, 5080, 5621, 2302, 2475, 1838, 2622, 5637, 5650, 5651, 1394, 4476, 5769, 3044, 5824,
-    5825, 5972, 5972, 5972, 5972, 5972, 5972, 262, 263, 264, 265, 562, 1639, 2468, 2722, 2186, 3511, 5502, 1528, 5972,
-    5972, 2840, 3684, 1291, 3946, 5972, 12, 13, 5972, 5972, 5972, 5972, 5972, 5972, 5972, 5972, 5972, 1237, 5693, 4396,
-    4397, 4398, 4399, 4400, 4393, 3488, 4401, 4425, 4426, 1502, 1319, 5972, 4805, 5972, 1852, 5972, 2768, 1362, 204,
-    3848, 1979, 5972, 5972, 5972, 5972, 5972, 5972, 665, 1919, 5972, 3110, 5972, 5972, 5972, 5972, 5972, 3529, 2706,
-    2732, 5972, 5972, 2566, 5972, 5972, 1664, 5972, 5972, 5972, 4329, 5972, 2483, 1064, 1330, 3976, 5711, 5972, 4449,
-    72, 73, 5972, 529, 530, 5027, 5028, 5029, 5672, 974, 975, 5972, 4531, 5456, 2638, 2944, 5972, 3546, 2885, 3256,
-    1207, 5972, 3462, 5814, 5815, 5972, 3091, 1418, 3941, 5972, 5972, 5972, 3063, 1982, 5972, 2289, 2348, 5972, 2106,
-    5972, 5972, 5972, 5972, 5972, 4443, 5507, 1563, 5972, 5972, 3738, 5972, 5972, 5972, 5972, 2304, 5972, 1831, 2137,
-    3432, 1954, 5727, 5728, 1780, 2295, 5972, 3016, 5972, 5430, 5972, 5972, 2656, 3162, 2535, 3163, 864, 865, 3164,
-    2057, 208, 1799, 2238, 700, 134, 701, 702, 703, 571, 704, 705, 706, 1670, 2393, 210, 2811, 3397, 3537, 3572, 3719,
-    4515, 5422, 2589, 5112, 5113, 5114, 5115, 5447, 2907, 5519, 2438, 1363, 5735, 2265, 1464, 3270, 3631, 1388, 5736,
-    3627, 5972, 1285, 5972, 3834, 53, 148, 2603, 2692, 1647, 2861, 3821, 2413, 4595, 4596, 1217, 371, 3643, 4597, 4931,
-    4932, 1818, 4933, 1888, 2071, 3386, 3387, 4117, 4934, 4935, 183, 481, 4936, 3628, 1684, 5288, 1756, 3417, 4550,
-    3019, 3881, 4230, 4231, 5289, 5388, 5425, 5574, 5741, 5742, 5874, 5875, 5972, 5972, 5972, 5972, 5972, 2158, 5972,
-    5972, 5972, 5972, 5972, 5972, 5972, 5972, 1036, 5972, 5972, 5972, 3468, 3859, 2269, 177, 1902, 2205, 2503, 1014,
-    1015, 2875, 3823, 4661, 5301, 5302, 2790, 5303, 3000, 3285, 3286, 1899, 3287, 935, 1195, 3288, 2307, 1251, 3289,
-    3290, 3291, 3777, 4086, 1742, 3419, 4519, 2228, 5335, 4150, 4151, 4152, 2, 4153, 2401, 2936, 3806, 4154, 4155, 2590,
-    166, 3083, 4156, 4157, 2216, 4158, 4340, 1341, 2444, 1128, 1129, 1130, 1131, 1132, 2595, 5217, 2019, 4839, 5218,
-    1303, 5336, 5337, 5338, 337, 5592, 5958, 2685, 3137, 5610, 3601, 5972, 1927, 1644, 5972, 5972, 2328, 5972, 3962,
-    919, 3963, 221, 222, 223, 5972, 5972, 5972, 5972, 5972, 1453, 5972, 5972, 5972, 449, 450, 5072, 5073, 5074, 5972,
-    5972, 5972, 5972, 5972, 5972, 2476, 5972, 5972, 5972, 5972, 5972, 304, 305, 306, 627, 628, 629, 630, 631, 632, 1069,
-    1070, 1071, 1072, 1416, 1592, 2040, 2925, 2586, 3047, 4509, 4620, 3142, 4657, 4739, 4740, 4741, 3216, 1634, 2153,
-    3217, 3218, 3516, 3327, 2550, 3328, 4742, 3753, 4743, 4744, 2829, 2808, 4479, 5406, 1443, 2365, 3866, 5641, 5834,
-    5835, 5946, 5947, 5972, 5972, 93, 2045, 1234, 4803, 5688, 485, 3448, 962, 5972, 5972, 3475, 1374, 3592, 5972, 5972,
-    5972, 5972, 5972, 5972, 1839, 5972, 2761, 5972, 3075, 5972, 1403, 364, 5972, 5972, 5972, 5972, 5972, 5972, 5972,
-    5972, 5972, 5972, 5972, 4310, 4311, 5972, 5972, 2727, 4485, 2191, 5972, 5972, 1519, 5972, 5972, 5972, 5972, 5022,
-    5023, 5024, 5972, 674, 2460, 5972, 5972, 5972, 5972, 5972, 5972, 5972, 5972, 1238, 2964, 4422, 4423, 5972, 5972,
-    140, 5972, 3620, 475, 476, 3836, 4526, 5972, 2888, 4027, 5972, 5972, 5972, 1699, 882, 2234, 3700, 5972, 5972, 5972,
-    5972, 455, 2708, 5972, 5972, 5972, 5972, 5972, 5972, 522, 523, 360, 2672, 3349, 2693, 5504, 2490, 5972, 5972, 5972,
-    5972, 1658, 5972, 5972, 5972, 5972, 1824, 5972, 5972, 1943, 5707, 5972, 5972, 4790, 5972, 5972, 1960, 5546, 2098,
-    5972, 5972, 5972, 1835, 1154, 1155, 1054, 1055, 2123, 2953, 5972, 5972, 338, 339, 5972, 5972, 5972, 5972, 5972,
-    5972, 3723, 5972, 3878, 2450, 4461, 5972, 5972, 5972, 1267, 5972, 1666, 2282, 2341, 5972, 5972, 669, 5972, 5972,
-    5972, 5972, 1483, 1562, 5972, 5972, 3731, 4918, 4919, 4920, 3913, 4921, 4922, 4923, 2136, 4924, 5446, 5972, 5972,
-    1359, 1551, 2179, 3027, 5972, 5563, 5535, 5536, 2649, 5537, 2777, 3829, 5514, 5972, 5972, 5972, 3900, 5972, 4101,
-    753, 754, 755, 756, 757, 5972, 1679, 5972, 1751, 5916, 2521, 2776, 5917, 5972, 5972, 5972, 5972, 5972, 5972, 5972,
-    5972, 5972, 5972, 5972, 5972, 5972, 5972, 3500, 5972, 606, 607, 608, 609, 610, 611, 1467, 2641, 5972, 5972, 5972,
-    5972, 143, 1339, 2612, 5258, 1557, 5259, 98, 99, 2864, 5260, 3640, 176, 5261, 3815, 2787, 5262, 5263, 5264, 3788,
-    1881, 5265, 3095, 4067, 1535, 1770, 3167, 1206, 4068, 4069, 1693, 4070, 3410, 5395, 2510, 5508, 2076, 4269, 4270,
-    4326, 5522, 5581, 5747, 5748, 5888, 5889, 3080, 2164, 5964, 5972, 5972, 5972, 2173, 2213, 5972, 5972, 5972, 5972,
-    4818, 5972, 3939, 5972, 4002, 5972, 5972, 5972, 5972, 5304, 1210, 1774, 5305, 2196, 1030, 1031, 2542, 5306, 5599,
-    5972, 5972, 5972, 2973, 2993, 5972, 3713, 1909, 1997, 3589, 4571, 3770, 4572, 1389, 5066, 5067, 5068, 5363, 5364,
-    5365, 5366, 5972, 5972, 3726, 4213, 4214, 119, 3890, 5972, 78, 5972, 5442, 5972, 5972, 5972, 165, 1508, 5972, 5972,
-    5972, 285, 286, 5972, 5972, 5972, 4692, 1796, 2398, 4732, 3985, 2541, 2013, 2360, 4733, 5972, 1305, 2629, 1873,
-    3980, 5765, 2745, 559, 3130, 4638, 5617, 4547, 3225, 3226, 3227, 4828, 4829, 5972, 426, 3299, 3300, 238, 239, 5399,
-    2834, 2085, 2849, 586, 1621, 3010, 3952, 1606, 4801, 5972, 5972, 5972, 5972, 5972, 1171, 5972, 1577, 420, 3864, 128,
-    5465, 196, 1007, 2810, 3118, 5972, 5972, 5972, 5972, 5972, 405, 406, 407, 1318, 1811, 1850, 1212, 2472, 4007, 4436,
-    1413, 4437, 3040, 4438, 5816, 5817, 5972, 3143, 4648, 5972, 5972, 2421, 5972, 1635, 2154, 2253, 3507, 5016, 3339,
-    1178, 3340, 5017, 3746, 5018, 1942, 3688, 3248, 3249, 3250, 5019, 18, 19, 4036, 4037, 2248, 2183, 4038, 2915, 5020,
-    5021, 5972, 5972, 5972, 4413, 3669, 5972, 943, 944, 2182, 3492, 4382, 1197, 4383, 2666, 3874, 4384, 5972, 5972,
-    1862, 5972, 2764, 4050, 200, 5972, 1975, 1584, 5972, 5972, 2759, 5972, 5972, 5972, 5972, 5972, 5972, 5972, 500, 501,
-    5972, 3067, 5972, 2736, 3525, 5496, 5972, 2570, 1510, 4789, 5972, 3559, 5972, 5972, 5972, 1460, 5972, 3972, 5972,
-    5972, 5972, 5972, 5972, 5972, 60, 61, 62, 5953, 5668, 5972, 5972, 1936, 5972, 982, 983, 3616, 5972, 2948, 5972,
-    5972, 3556, 2881, 4014, 5972, 5972, 3579, 1708, 881, 5972, 5972, 1166, 1167, 1968, 1356, 5972, 5972, 5972, 5972,
-    2293, 2344, 5972, 5972, 508, 509, 355, 1987, 5972, 5972, 5972, 5972, 5972, 5972, 3734, 5972, 5972, 5972, 5972, 5529,
-    1283, 3893, 5530, 1334, 5972, 1950, 5972, 2679, 5972, 5972, 5972, 5972, 5553, 2089, 5972, 5775, 3165, 5972, 2116,
-    5972, 5972, 5972, 2061, 2662, 5972, 5972, 3373, 5972, 5972, 5972, 2697, 5972, 5972, 5972, 5926, 3470, 3720, 5927,
-    5972, 5972, 5972, 5972, 5972, 5972, 5972, 5133, 5134, 5972, 5972, 5972, 4833, 5972, 5972, 2442, 5972, 5972, 5972,
-    5972, 5972, 5972, 5972, 5972, 5972, 5972, 5972, 3832, 5972, 5972, 3533, 5272, 5273, 1544, 2857, 3817, 5274, 5972,
-    4609, 1216, 3597, 1651, 4610, 4611, 2130, 4612, 4613, 1884, 3791, 4614, 925, 4123, 4124, 4298, 1246, 4299, 5383,
-    5384, 1688, 5570, 1760, 3413, 5898, 5899, 4837, 5972, 1892, 5972, 5972, 1270, 5812, 5813, 4816, 2010, 5972, 5972,
-    5972, 5972, 5972, 5972, 5972, 317, 318, 136, 1474, 5972, 2394, 2502, 5972, 5972, 1287, 3436, 5972, 5972, 2613, 2273,
-    181, 1558, 1906, 2871, 3557, 5060, 5061, 3648, 4677, 4678, 4679, 2794, 1382, 112, 2996, 3073, 3707, 5062, 4577,
-    4096, 4578, 5588, 5307, 5308, 5309, 5310, 5311, 5312, 1746, 5313, 5314, 2232, 4276, 3850, 4183, 4184, 4185, 4186,
-    2332, 2485, 4039, 4187, 4188, 4189, 175, 4190, 4510, 4720, 1372, 3909, 4721, 1345, 2469, 1114, 4722, 4723, 5870,
-    5871, 5941, 5969, 5972, 465, 466, 2353, 3666, 5482, 5483, 5972, 1026, 5972, 3133, 5606, 5972, 5972, 2958, 1931,
-    3244, 3245, 3605, 5972, 5972, 5972, 5972, 889, 890, 5972, 5972, 5972, 2877, 5972, 218, 591, 1449, 1725, 5972, 5972,
-    5972, 5972, 5972, 5972, 5972, 5972, 5972, 1570, 5972, 5972, 5972, 5972, 4439, 5972, 5972, 5972, 4501, 296, 297,
-    1084, 1085, 1086, 1087, 424, 5972, 2000, 3994, 1214, 5972, 2036, 1604, 1405, 5451, 2921, 3059, 3928, 5766, 5972,
-    3154, 3896, 5654, 5972, 5972, 3190, 1630, 3191, 3192, 1088, 1089, 1090, 1185, 911, 2898, 3193, 3194, 3297, 804, 805,
-    577, 806, 807, 20, 21, 1259, 1439, 1607, 1612, 2825, 3298, 1266, 442, 443, 3595, 3667, 2820, 1912, 197, 3452, 3749,
-    2159, 3479, 2640, 1198, 3949, 4623, 4624, 5402, 2297, 4546, 1804, 3035, 5473, 4043, 5474, 5972, 1391, 1292, 3041,
-    3443, 4831, 5972, 5972, 2930, 135, 5972, 3535, 5972, 5972, 560, 561, 2147, 2262, 2465, 3530, 2187, 4321, 4322, 1523,
-    3350, 3351, 2843, 2955, 1290, 3352, 3353, 8, 9, 3354, 3355, 3767, 3977, 2809, 4323, 5499, 5972, 5972, 5972, 5972,
-    4349, 4350, 4351, 2504, 941, 942, 3487, 4352, 4353, 4354, 1505, 2962, 4530, 3400, 4909, 1857, 4910, 1703, 886, 4911,
-    3801, 1973, 3017, 4912, 4913, 2243, 2670, 5972, 5972, 5972, 5972, 3114, 3563, 5972, 5972, 5972, 5972, 5972, 2733,
-    5972, 5972, 5972, 5972, 5972, 5972, 5972, 1661, 5972, 5972, 5972, 1828, 44, 45, 5708, 5972, 5972, 5972, 4448, 5972,
-    5972, 5972, 5538, 5539, 5540, 121, 122, 1490, 1148, 1149, 1150, 2119, 5541, 3261, 3262, 5542, 350, 351, 2882, 3549,
-    5972, 5972, 5972, 5972, 5972, 5972, 5972, 5972, 2223, 5972, 5972, 5972, 5972, 5972, 2286, 2337, 5972, 5972, 345,
-    5972, 5972, 5972, 1984, 5972, 5972, 5972, 5972, 5972, 5972, 5972, 5972, 5972, 4603, 4604, 4605, 5972, 2140, 5972,
-    2618, 1957, 5972, 1547, 1785, 5972, 5972, 5972, 4333, 1242, 2911, 2653, 5559, 2534, 5784, 850, 851, 852, 853, 2054,
-    4836, 5785, 680, 681, 682, 683, 684, 2390, 1668, 3394, 5908, 5909, 5972, 5972, 3540, 5972, 5972, 5972, 5972, 5972,
-    5770, 5972, 5972, 5972, 5972, 5972, 5972, 5972, 5972, 5972, 1366, 602, 5972, 1463, 5972, 5054, 5055, 5056, 3915,
-    5972, 5972, 5972, 3833, 56, 147, 2608, 2689, 1665, 5232, 106, 107, 2860, 3820, 3644, 5233, 3610, 5234, 5235, 5236,
-    5237, 4621, 4622, 1877, 2068, 5577, 4079, 1766, 5739, 5391, 482, 5740, 5972, 1697, 4711, 1757, 3406, 2514, 4712,
-    2047, 4227, 4228, 4229, 4328, 4713, 4714, 4715, 5158, 5159, 5160, 422, 1993, 2168, 5161, 5880, 1370, 2104, 5881,
-    1346, 5972, 5972, 5972, 5972, 5972, 878, 1161, 5972, 5972, 3465, 5972, 2268, 2587, 5294, 5295, 5972, 1009, 2525,
-    5968, 5595, 5972, 2822, 5972, 2789, 5972, 111, 2989, 3717, 3797, 5952, 4566, 5972, 4520, 2310, 3177, 3178, 3179,
-    3180, 2377, 3181, 1720, 3424, 3782, 2229, 5347, 4141, 4142, 158, 4143, 4144, 4145, 2933, 433, 4146, 4147, 4148, 169,
-    996, 1667, 2715, 4149, 4506, 5010, 5011, 5012, 1141, 1142, 1143, 5188, 5189, 3845, 2329, 2024, 3439, 3989, 5190,
-    5191, 5192, 5193, 5194, 1025, 5195, 2555, 3126, 5348, 5349, 2537, 3598, 5350, 2430, 3003, 5613, 86, 1043, 5755, 915,
-    230, 231, 5412, 5413, 5450, 5734, 582, 5756, 1456, 5972, 5972, 5972, 2108, 5972, 5972, 5972, 5972, 5972, 5972, 5972,
-    396, 5972, 5972, 5972, 5972, 5972, 4289, 5972, 5972, 1373, 651, 652, 653, 654, 655, 656, 657, 658, 659, 1204, 1487,
-    1488, 1807, 1595, 1846, 2030, 2531, 2583, 2926, 3052, 3140, 4654, 4655, 4656, 564, 4782, 1631, 2150, 4334, 2257,
-    3519, 613, 614, 615, 616, 617, 618, 619, 620, 621, 2848, 3314, 1446, 3315, 3316, 3317, 3318, 2244, 3570, 3692, 3742,
-    4335, 4783, 3463, 3886, 5409, 4902, 4903, 190, 4904, 950, 4362, 3496, 4363, 1273, 4364, 4365, 4366, 4367, 4368,
-    4905, 1860, 4906, 2760, 3680, 4054, 4907, 1396, 4908, 5438, 5840, 5841, 5972, 4472, 5972, 129, 5972, 5972, 5972,
-    5972, 5972, 5972, 5972, 5972, 2724, 5972, 3085, 5972, 5972, 1514, 2981, 1939, 3762, 267, 3936, 5972, 5972, 4433,
-    2457, 5972, 5972, 5972, 5972, 5972, 5972, 5972, 5972, 5972, 2335, 5664, 5972, 5972, 5972, 5972, 990, 991, 5972,
-    3612, 5972, 5972, 5972, 3552, 2893, 4021, 4022, 2323, 3625, 1712, 885, 4023, 4024, 1964, 4025, 4026, 2816, 5972,
-    113, 5972, 5972, 5972, 5972, 5972, 3108, 516, 517, 359, 2677, 253, 5531, 5532, 5533, 1189, 5796, 5797, 1324, 1496,
-    1659, 2908, 5462, 3577, 1823, 5972, 5972, 5703, 1946, 5704, 5972, 2749, 5972, 4834, 5972, 1378, 2093, 2316, 4341,
-    2544, 2426, 2112, 3681, 4342, 5549, 2065, 5782, 83, 2950, 5783, 172, 4457, 131, 5972, 5972, 5972, 5972, 5972, 3724,
-    5972, 2447, 2224, 4466, 5972, 5972, 5972, 5972, 5048, 5049, 5050, 5467, 5972, 5972, 5972, 5972, 5972, 5972, 5972,
-    5972, 5972, 5972, 2418, 5972, 5972, 5972, 3910, 5972, 1175, 5972, 5972, 5972, 5716, 5524, 5717, 1540, 5972, 2853,
-    5972, 494, 495, 3368, 3369, 3370, 3371, 3372, 2126, 846, 847, 848, 486, 849, 928, 1192, 710, 711, 712, 713, 2712,
-    4304, 1676, 4305, 1748, 4459, 2522, 4704, 3695, 4705, 4706, 4707, 4708, 5518, 5566, 5890, 5142, 2006, 5143, 2804,
-    5144, 5145, 5891, 5972, 3499, 5972, 5972, 1470, 5972, 5972, 1037, 2498, 5972, 1046, 5972, 5972, 5972, 5972, 2609,
-    2277, 5972, 1554, 5972, 2867, 104, 105, 1021, 4474, 5584, 5972, 5972, 2782, 5972, 5972, 5972, 5972, 5972, 5972,
-    5972, 4061, 1773, 1536, 2406, 1243, 2701, 4062, 399, 400, 1690, 461, 1735, 3427, 4063, 4064, 4065, 4066, 4251, 3854,
-    4252, 502, 503, 4253, 4280, 2163, 4490, 5394, 4031, 5862, 5863, 5972, 3968, 3969, 3021, 1107, 1108, 4468, 5806,
-    5807, 5972, 5972, 3029, 2357, 5486, 5487, 3663, 5972, 1820, 2199, 2529, 5972, 2558, 3814, 5602, 5972, 1865, 2796,
-    2975, 5972, 2990, 3714, 3588, 5972, 2251, 901, 4567, 3775, 4568, 5972, 5972, 5972, 5972, 5972, 1729, 5972, 5972,
-    5972, 3727, 3898, 4199, 4200, 4201, 1265, 4202, 4203, 4204, 4205, 4775, 4776, 4777, 5972, 5972, 3124, 4538, 287,
-    288, 4497, 4688, 170, 4010, 153, 4011, 4689, 3998, 2538, 4690, 2018, 432, 1408, 1600, 2917, 565, 566, 567, 568, 569,
-    570, 1229, 2004, 2409, 3055, 3150, 3240, 3241, 1101, 1102, 1042, 1103, 912, 913, 914, 1182, 2578, 788, 789, 572,
-    790, 791, 1434, 1435, 1616, 2425, 2837, 2902, 2928, 2755, 3013, 3242, 3306, 3307, 3308, 3309, 3310, 193, 3311, 3379,
-    3380, 3456, 2621, 5, 3483, 3560, 3835, 3932, 2301, 4284, 1800, 1847, 4633, 4889, 2031, 4890, 1395, 4891, 4892, 4893,
-    4894, 4895, 5398, 5620, 1910, 5631, 3884, 5638, 258, 259, 260, 261, 1640, 2143, 2719, 3331, 3510, 5681, 1527, 3763,
-    5822, 2839, 3685, 5823, 5850, 5851, 14, 15, 4034, 4035, 5972, 5972, 5972, 5972, 3672, 5972, 5972, 5972, 5694, 4408,
-    489, 4409, 4410, 948, 949, 3491, 4391, 4392, 4411, 2669, 4412, 5972, 5972, 5972, 1853, 5972, 2767, 5972, 5972, 3847,
-    5972, 5972, 5972, 1353, 5972, 5972, 5972, 5972, 1920, 5972, 5972, 5972, 4138, 5972, 5972, 5972, 5972, 2705, 2737,
-    3528, 1191, 5972, 2567, 1499, 537, 538, 1940, 3574, 5972, 5972, 5972, 2489, 3975, 5712, 5972, 5972, 4452, 5972, 74,
-    75, 4296, 5956, 5671, 5972, 5972, 5972, 5972, 972, 973, 4532, 3617, 5972, 2637, 2945, 3545, 5972, 5972, 5972, 5972,
-    3472, 5453, 5972, 5972, 5972, 1967, 1162, 1163, 1296, 1297, 3212, 3213, 3214, 2290, 2349, 1489, 3215, 3581, 5972,
-    5972, 1986, 2635, 4455, 4700, 5972, 5972, 5972, 3739, 5972, 5972, 5972, 5972, 2313, 1282, 1830, 5441, 5972, 1333,
-    1953, 4469, 4703, 1781, 1424, 1425, 1533, 2660, 2088, 5556, 5729, 3107, 3571, 2113, 863, 5520, 5730, 1376, 2058,
-    2237, 5972, 699, 5972, 3802, 3398, 2694, 3923, 91, 1671, 5932, 5933, 3650, 3651, 4467, 4797, 3106, 5972, 5972, 5972,
-    5733, 2591, 2220, 5104, 5105, 5106, 5107, 3582, 5108, 5109, 2439, 5110, 5111, 5972, 673, 2780, 1387, 3268, 3269,
-    3626, 5972, 5972, 5972, 5972, 2604, 3504, 5290, 1648, 5291, 2856, 3816, 5972, 5972, 5573, 5972, 370, 1654, 2661,
-    409, 410, 411, 1819, 1895, 2072, 3795, 4115, 763, 764, 205, 765, 766, 767, 1685, 4116, 1761, 3418, 5001, 85, 3882,
-    4242, 4243, 4244, 5002, 5003, 5387, 5904, 5177, 2011, 5178, 2172, 5179, 5180, 395, 3070, 5181, 1276, 1277, 3655,
-    4435, 5182, 2499, 5183, 5905, 5972, 1034, 5972, 5972, 3469, 5972, 387, 388, 1903, 2272, 2204, 1013, 2207, 2515,
-    4428, 4429, 1925, 4430, 2793, 4431, 4432, 3001, 3505, 3704, 4672, 3901, 934, 4083, 2306, 3778, 1252, 4084, 4085,
-    4673, 4674, 1739, 3420, 543, 544, 545, 546, 547, 548, 549, 550, 551, 552, 2233, 2402, 819, 820, 821, 822, 823, 2369,
-    2937, 3805, 3842, 4175, 2451, 1123, 1124, 1125, 1126, 1127, 2596, 3678, 4176, 2020, 2352, 1566, 4177, 4178, 2562,
-    336, 4179, 4180, 2551, 2684, 1220, 3138, 3602, 1926, 2978, 4181, 4182, 4275, 4339, 3964, 3965, 918, 219, 220, 4675,
-    4676, 4767, 3634, 4768, 4871, 1452, 1726, 4872, 4873, 4874, 447, 448, 4875, 4876, 4877, 4878, 1569, 4879, 4880,
-    5098, 2477, 5212, 2081, 4444, 5213, 5214, 307, 308, 1073, 1074, 185, 1075, 1076, 1316, 2003, 4500, 5215, 5216, 2041,
-    5330, 1406, 1591, 3048, 2922, 3927, 5331, 5332, 3151, 4660, 1222, 5333, 5334, 3219, 3220, 2807, 2528, 2897, 3221,
-    3325, 3326, 3515, 3596, 3754, 4282, 4756, 774, 775, 776, 1289, 1442, 1611, 2366, 2814, 2828, 4480, 4757, 5405, 5475,
-    5476, 94, 2046, 1233, 5477, 5591, 3447, 186, 5609, 958, 959, 960, 961, 3474, 5639, 5640, 5689, 5832, 2296, 5833,
-    1805, 1840, 5938, 4042, 3078, 5939, 1400, 363, 5940, 5944, 5945, 4694, 5965, 5972, 380, 1934, 5972, 5972, 5972,
-    3856, 5972, 5972, 5972, 4492, 2728, 2192, 5503, 5972, 1518, 3356, 3357, 2846, 3358, 3359, 487, 2382, 3360, 3361,
-    3759, 5972, 5972, 5972, 5972, 5972, 5972, 5972, 5972, 1863, 2965, 3659, 4421, 5045, 5046, 5047, 5972, 4527, 3621,
-    473, 474, 4495, 329, 330, 2889, 5972, 2195, 5972, 1700, 2242, 3699, 5972, 5972, 3020, 5972, 5972, 5972, 2740, 5972,
-    5972, 1314, 5732, 5972, 5972, 524, 525, 2673, 5972, 5972, 5972, 5972, 5972, 4523, 5972, 5972, 1491, 5972, 1662,
-    5972, 5972, 5972, 1827, 40, 41, 5972, 5972, 5972, 5972, 5972, 5972, 5972, 5972, 2518, 1241, 2097, 5545, 2548, 1875,
-    1151, 1152, 1153, 2124, 5972, 5972, 81, 1199, 1789, 2954, 5440, 5972, 5972, 5972, 5972, 5972, 5972, 5972, 3917,
-    4462, 5972, 5972, 5972, 5972, 391, 392, 1714, 2283, 2342, 5657, 344, 666, 667, 1384, 5658, 2895, 5972, 5972, 1561,
-    5972, 3732, 5972, 5972, 5972, 3914, 5972, 1278, 5972, 2135, 5972, 5972, 5972, 5972, 1552, 5972, 5972, 4980, 4981,
-    4982, 4983, 4984, 2646, 4985, 4986, 3828, 861, 862, 5515, 2051, 5562, 930, 5972, 745, 746, 747, 748, 749, 750, 751,
-    752, 1680, 1752, 5914, 5915, 5972, 4271, 4272, 3580, 5432, 5972, 5786, 5787, 5972, 5972, 5972, 3157, 5972, 5972,
-    5972, 5972, 5972, 605, 1202, 1466, 5972, 5972, 5972, 5972, 5972, 5972, 5972, 1921, 5972, 5972, 2605, 5266, 5267,
-    5268, 1649, 2863, 5972, 5427, 5745, 3641, 5580, 5746, 5972, 2786, 5970, 5972, 4766, 3789, 535, 536, 1882, 3098,
-    1769, 4078, 4308, 2491, 4309, 4486, 1694, 4579, 1738, 3407, 2509, 4580, 2084, 2703, 3077, 4266, 4267, 4268, 4325,
-    4581, 4582, 4583, 3081, 423, 2167, 4584, 5096, 5175, 2206, 2212, 4814, 5176, 5390, 5886, 5887, 5963, 5972, 3916,
-    1008, 4003, 5972, 5972, 5488, 4856, 2561, 4857, 1775, 4858, 1028, 1029, 4859, 4860, 4861, 4862, 4863, 5489, 2972,
-    5534, 5598, 5972, 5972, 5972, 4561, 907, 908, 909, 3771, 1250, 4562, 5373, 2376, 2771, 1717, 2961, 3425, 5374, 2305,
-    3948, 5375, 155, 5647, 5648, 5972, 5972, 5972, 5972, 5972, 2445, 164, 998, 999, 1000, 1001, 4542, 5972, 5972, 5972,
-    1317, 4033, 1793, 5972, 5972, 3986, 5753, 3440, 2014, 2359, 5626, 2630, 212, 213, 214, 5459, 5627, 2744, 3131, 1226,
-    4637, 3599, 1933, 3228, 3229, 3230, 4753, 4013, 425, 3022, 917, 236, 237, 1187, 3785, 2833, 2876, 585, 1620, 59, 30,
-    31, 1459, 3009, 3953, 3954, 3955, 3956, 271, 272, 1172, 427, 1576, 3863, 3957, 3958, 4754, 1006, 3119, 4286, 4287,
-    4288, 4826, 4827, 5414, 5415, 5616, 5754, 1348, 1812, 1843, 2473, 2027, 4008, 1414, 2319, 2627, 3049, 4009, 1981,
-    5510, 3144, 325, 4647, 5972, 5972, 5972, 1636, 2155, 5972, 2254, 5972, 3337, 3338, 5972, 2575, 1531, 1168, 1169,
-    3689, 3747, 3944, 5972, 5039, 1445, 5040, 5041, 5972, 5972, 2249, 5972, 5972, 5972, 5972, 5972, 5972, 5972, 3257,
-    3258, 3446, 2194, 955, 956, 957, 2351, 3495, 4375, 1342, 2665, 1323, 3873, 4376, 1869, 3568, 2763, 3679, 201, 4049,
-    1978, 1585, 4377, 1349, 1350, 4378, 4379, 4380, 4381, 1916, 4471, 5972, 5972, 5972, 5972, 5972, 5972, 3524, 2725,
-    5468, 5497, 5972, 2571, 3378, 5683, 3558, 5972, 5972, 1534, 5972, 1263, 2454, 808, 809, 810, 1329, 3971, 5972, 63,
-    64, 65, 1236, 2386, 2966, 3660, 4794, 5667, 980, 981, 5972, 3613, 5972, 2949, 5972, 3555, 2890, 5972, 5972, 5972,
-    3586, 1709, 880, 5972, 5972, 5972, 1963, 5972, 1358, 5972, 5972, 5972, 1269, 2345, 5972, 5972, 5972, 510, 511, 354,
-    5972, 5972, 5972, 5972, 5972, 5972, 5972, 3735, 5972, 5972, 5972, 5972, 5972, 3894, 1834, 375, 1255, 5972, 416, 417,
-    1949, 1777, 5972, 5972, 5972, 5552, 2092, 5972, 127, 4535, 2598, 5972, 5972, 5972, 5972, 2062, 2241, 2625, 2770,
-    3622, 5972, 5972, 5972, 2698, 5972, 5972, 5972, 5924, 3471, 3721, 4463, 5925, 5972, 5972, 5972, 5972, 5972, 5696,
-    5697, 5128, 5129, 5130, 5131, 269, 270, 5132, 5448, 2443, 5972, 5972, 5972, 5972, 5972, 3636, 5972, 5972, 5972,
-    1176, 5972, 3183, 5972, 1381, 4765, 5275, 1545, 5276, 2852, 5277, 5972, 5972, 5569, 5972, 5972, 5972, 5516, 2713,
-    5972, 1815, 3792, 1885, 5972, 3099, 924, 4122, 5972, 5381, 142, 5382, 5972, 1689, 5972, 1749, 3414, 5896, 5426,
-    5897, 5972, 1893, 4810, 2400, 4811, 5798, 5799, 5972, 2007, 5972, 5972, 5972, 5972, 5972, 5972, 1369, 319, 320,
-    2278, 5972, 5972, 2419, 5972, 4821, 5972, 5972, 5972, 3437, 5972, 5972,
+    0, 1, 182, 1213, 1567, 1909, 1021, 2278, 2616, 2876, 1221, 3649, 4704, 2783, 4705, 5605, 3000, 3711, 5991, 5991,
+    5991, 4112, 4113, 5105, 5106, 2702, 3173, 3174, 3175, 5107, 1745, 2455, 5886, 5887, 4297, 5991, 4266, 4267, 4268,
+    5991, 2335, 4157, 2488, 3812, 4158, 5112, 5991, 5991, 5991, 4048, 2213, 3911, 5991, 5991, 2594, 2476, 1113, 1114,
+    1115, 5475, 4768, 5991, 5991, 2358, 5991, 5991, 5991, 5991, 5991, 2204, 5991, 5991, 3137, 5623, 5991, 5991, 3609,
+    1964, 1932, 2961, 2977, 5991, 2327, 3594, 5991, 890, 5991, 5991, 5991, 1255, 5991, 5991, 592, 5991, 5991, 1450,
+    1732, 5991, 5991, 5991, 5991, 5991, 5991, 5991, 5991, 5991, 1575, 5991, 5991, 5991, 4458, 5991, 5991, 3124, 5991,
+    4514, 300, 301, 4555, 5991, 5991, 154, 5874, 2001, 5875, 4013, 2541, 2039, 5991, 1411, 1309, 1605, 2920, 2397, 3063,
+    3949, 2745, 3150, 1230, 3274, 4650, 5641, 3198, 3199, 3200, 3201, 1093, 1094, 1095, 1186, 2903, 3298, 3299, 3753,
+    2826, 802, 803, 577, 578, 804, 805, 1440, 1617, 2424, 3015, 3942, 4301, 4530, 5419, 5510, 5511, 1234, 3865, 5651,
+    1915, 3454, 1004, 5652, 5667, 3481, 5785, 5991, 5991, 5991, 5991, 5991, 2302, 2918, 1803, 1838, 5846, 4064, 5847,
+    5991, 5991, 3379, 2853, 3045, 5991, 5991, 5991, 5991, 4663, 4664, 3537, 5991, 5991, 4336, 2150, 2468, 2265, 2718,
+    3516, 2190, 3728, 4337, 1524, 3771, 4338, 1824, 2844, 2962, 3685, 5518, 10, 11, 5991, 5991, 5991, 5991, 5991, 5991,
+    3676, 5991, 5991, 5991, 5709, 5991, 5991, 5991, 2507, 941, 942, 3489, 5991, 5991, 2943, 1506, 2670, 5991, 3404,
+    5991, 1484, 1860, 1706, 4496, 5991, 3803, 1974, 5991, 674, 5991, 2680, 5991, 5991, 5991, 5991, 5991, 4970, 3118,
+    3565, 4971, 4972, 4973, 4974, 2706, 2736, 430, 3706, 4975, 4976, 4977, 4978, 4979, 4980, 4981, 5991, 5991, 46, 47,
+    1339, 5727, 5991, 5991, 5991, 5991, 5991, 5991, 5991, 5991, 5692, 5991, 5991, 1508, 2122, 5991, 5991, 5991, 5991,
+    3263, 5991, 5991, 350, 351, 385, 386, 2885, 3406, 3551, 5952, 5953, 5991, 5991, 5991, 5991, 1357, 5991, 5991, 5991,
+    5991, 2289, 2340, 4365, 4366, 5955, 5991, 5991, 5991, 5991, 5991, 5991, 1480, 4779, 5991, 3093, 3731, 5991, 5991,
+    5991, 5991, 5991, 5991, 2141, 5991, 2621, 1958, 5741, 2180, 1550, 1788, 5742, 2987, 5991, 4350, 2912, 2652, 5576,
+    2105, 5539, 5991, 5991, 5991, 2057, 5991, 5991, 5991, 677, 678, 679, 680, 681, 1210, 2393, 89, 2412, 3398, 2815,
+    3933, 3542, 5924, 5925, 5991, 5991, 5991, 5991, 5991, 5991, 5991, 4837, 5991, 5991, 5991, 5991, 5991, 5991, 603,
+    5991, 1464, 5991, 5991, 5991, 5991, 5991, 5991, 5991, 1288, 5991, 5991, 55, 148, 2692, 5256, 1589, 2861, 3822, 2413,
+    5099, 3648, 1217, 2644, 5100, 5101, 5257, 5258, 1053, 1054, 1055, 1880, 186, 925, 2071, 250, 1767, 2472, 3097, 3721,
+    4132, 1684, 5259, 1760, 5260, 2515, 2050, 2375, 4242, 4243, 4244, 4512, 5261, 5404, 5594, 5700, 5896, 1996, 2173,
+    5897, 5991, 5991, 5991, 2109, 5991, 1202, 4452, 5991, 5991, 5991, 5991, 5991, 5991, 5991, 5991, 5991, 3469, 5991,
+    387, 181, 388, 2269, 2389, 5314, 5315, 4445, 1220, 5612, 5991, 4616, 1382, 112, 2052, 2790, 3001, 1899, 3708, 4617,
+    4618, 3786, 2311, 4539, 1250, 4709, 4824, 2007, 5377, 1723, 3424, 5378, 2232, 5379, 5380, 5968, 161, 5991, 5991,
+    5991, 5991, 5202, 835, 836, 837, 170, 838, 839, 5203, 2220, 4523, 4356, 5204, 2436, 1140, 1141, 1142, 1799, 2599,
+    3847, 4008, 2027, 5205, 5461, 5496, 5497, 5991, 1876, 5991, 1025, 1026, 2558, 2689, 3130, 5630, 3606, 5991, 5991,
+    2433, 3007, 5991, 5991, 5991, 1188, 923, 229, 230, 231, 2545, 5991, 5991, 583, 1626, 1460, 3077, 1647, 5991, 5991,
+    455, 456, 5991, 5991, 5991, 5991, 5991, 403, 5991, 5991, 5991, 5991, 2080, 3547, 3120, 5991, 311, 312, 644, 645,
+    646, 647, 648, 649, 650, 651, 652, 1431, 1432, 1810, 1596, 2004, 2040, 140, 2586, 2929, 3048, 3144, 4073, 1226,
+    4669, 556, 1816, 1634, 4670, 2153, 2260, 3521, 3316, 3872, 4671, 3870, 3746, 5453, 5856, 783, 784, 391, 392, 785,
+    1263, 1290, 1443, 2849, 3696, 2247, 5446, 5857, 5960, 5961, 5991, 5991, 3890, 5704, 5991, 193, 1916, 970, 971, 1049,
+    3453, 1274, 3476, 4373, 3880, 4374, 4375, 4376, 1863, 4377, 4378, 4379, 4071, 4955, 1399, 4956, 4957, 4958, 4959,
+    4960, 4961, 5991, 5991, 5991, 5991, 5991, 5991, 5991, 4464, 5991, 5991, 5991, 2731, 3344, 2195, 5991, 1515, 3760,
+    5991, 5991, 268, 3958, 5991, 5991, 5991, 2460, 770, 5991, 5991, 3961, 5991, 5991, 5991, 5991, 5991, 2365, 5991,
+    5679, 4436, 4437, 4438, 990, 991, 4542, 1377, 481, 482, 5680, 328, 329, 330, 1256, 2888, 3554, 3627, 1715, 886,
+    4035, 4036, 1976, 116, 4037, 1353, 2690, 4038, 5681, 5991, 5991, 5991, 3112, 5991, 520, 360, 521, 2676, 5812, 2741,
+    3640, 3641, 1190, 5813, 1499, 5991, 1662, 5991, 5991, 5991, 3579, 5991, 36, 37, 1947, 5481, 5723, 5991, 2750, 5991,
+    5991, 1381, 2319, 2098, 5566, 5794, 559, 560, 1161, 1162, 2123, 3655, 3656, 2953, 86, 5795, 4858, 173, 4859, 4860,
+    4861, 4862, 4863, 5991, 5991, 5991, 5991, 2450, 5991, 5991, 2370, 5991, 5991, 5991, 2341, 5991, 5991, 5673, 5674,
+    5991, 5991, 5991, 5991, 5991, 5991, 1482, 5991, 5991, 3732, 5991, 5093, 4554, 3914, 5094, 5095, 5991, 5991, 5991,
+    5736, 5737, 5991, 1543, 5991, 5991, 5991, 5991, 5583, 5991, 2915, 2645, 5991, 5991, 2129, 847, 5991, 5991, 5991,
+    3900, 5991, 4118, 709, 710, 711, 4321, 5991, 5991, 1679, 5991, 1755, 4763, 2525, 4764, 4765, 3699, 3509, 5938, 5939,
+    5991, 5991, 5991, 5991, 5991, 5991, 5991, 5991, 5991, 5991, 5991, 3034, 3501, 5991, 1475, 2382, 5991, 5991, 5991,
+    52, 5991, 5991, 5991, 5991, 5991, 2612, 5262, 4822, 5263, 1557, 2872, 104, 105, 459, 1022, 1314, 3158, 3652, 2787,
+    5264, 5265, 5266, 3789, 1881, 5267, 5478, 5601, 1774, 1539, 2409, 371, 490, 4509, 5411, 1693, 1734, 3431, 5878,
+    2510, 5879, 3079, 3856, 4281, 4282, 4283, 4342, 5991, 5991, 5991, 3085, 2164, 5991, 5991, 5991, 5991, 2217, 5043,
+    1276, 5044, 5991, 5991, 5826, 5827, 5991, 5991, 4018, 5991, 5484, 5991, 5991, 3254, 3255, 5991, 1363, 1823, 2200,
+    2534, 2561, 5619, 3816, 5991, 2135, 1868, 2801, 2973, 2994, 3036, 3718, 5975, 4587, 898, 899, 900, 901, 902, 2266,
+    3779, 4588, 5991, 5991, 1720, 5991, 5991, 5991, 5991, 5991, 2281, 158, 5991, 5991, 76, 5237, 2486, 5238, 5239, 5240,
+    5241, 5242, 5243, 4559, 291, 292, 4526, 5991, 5991, 5991, 5991, 1792, 5866, 4017, 4809, 5777, 5778, 5867, 1601,
+    2633, 3815, 3059, 2416, 5648, 5991, 2749, 1060, 3131, 4654, 5470, 5637, 3246, 5991, 4716, 4717, 1106, 1043, 1107,
+    1108, 2581, 2907, 3026, 3307, 2838, 2942, 1621, 3011, 3308, 1435, 26, 27, 1590, 5415, 5991, 5991, 2758, 5984, 275,
+    276, 277, 446, 447, 1577, 2819, 196, 3458, 4943, 4944, 3485, 2628, 4945, 4946, 4947, 4948, 5991, 5838, 5839, 1850,
+    5991, 5991, 2034, 5991, 1394, 5991, 1296, 3041, 5698, 5991, 5991, 5991, 5991, 5991, 5991, 3892, 256, 257, 258, 259,
+    1643, 2146, 2722, 3332, 1182, 2186, 3333, 1528, 3512, 3767, 3689, 3923, 5991, 5677, 5678, 5991, 5991, 5991, 5991,
+    5991, 5991, 5991, 5991, 5991, 5991, 5991, 5991, 5713, 4424, 151, 4425, 949, 3678, 4406, 3493, 4407, 4408, 5991,
+    2666, 3164, 5991, 5991, 5991, 1856, 5991, 5991, 4066, 5991, 3842, 5991, 1584, 5991, 1354, 5991, 5991, 5991, 5991,
+    5991, 5991, 5991, 3114, 4150, 4151, 4152, 4153, 4154, 3530, 1486, 2740, 4155, 5991, 1514, 1502, 5991, 1943, 3572,
+    5991, 5991, 5991, 5991, 3992, 3632, 5731, 5991, 5991, 4469, 5991, 79, 80, 4313, 2366, 4856, 5688, 5991, 5991, 5991,
+    972, 973, 5991, 5991, 5991, 2638, 1346, 336, 337, 2881, 2948, 5991, 3436, 1708, 5991, 5991, 5991, 5991, 1166, 1297,
+    1968, 5991, 5991, 5991, 1270, 2293, 2352, 5087, 5088, 5089, 5991, 5991, 5991, 5991, 5991, 5991, 5991, 5111, 5991,
+    3743, 5991, 5991, 5991, 5991, 5991, 1283, 1835, 3888, 3894, 5991, 1954, 4495, 5991, 1784, 2683, 2661, 5991, 5991,
+    2089, 5573, 2656, 125, 3068, 4552, 874, 875, 876, 877, 878, 2061, 2116, 695, 696, 697, 698, 699, 700, 2238, 92,
+    1674, 2697, 3346, 3347, 3348, 3937, 4540, 4752, 4753, 3190, 3191, 3874, 4754, 4755, 4756, 4773, 5118, 5119, 3586,
+    5120, 2103, 1366, 2442, 4820, 5121, 3268, 3269, 3270, 5749, 5948, 5949, 5991, 1258, 5991, 5991, 5310, 1304, 5311,
+    1544, 2857, 5991, 5991, 5991, 5590, 5991, 375, 5991, 5991, 414, 415, 416, 5991, 1898, 2075, 3799, 929, 4138, 4139,
+    4315, 1247, 5397, 5398, 3614, 1688, 5991, 1764, 3418, 5920, 5921, 5985, 4255, 1892, 4256, 4257, 4258, 4259, 5991,
+    5991, 5991, 5991, 5991, 5991, 437, 3072, 5991, 323, 324, 1277, 3659, 5991, 2502, 5991, 5991, 5991, 5991, 3386, 3387,
+    3388, 5991, 5991, 2273, 1906, 5991, 2205, 2221, 1014, 2551, 4685, 4686, 4687, 4688, 4689, 2794, 3035, 2997, 3278,
+    3279, 3280, 3712, 935, 3713, 3782, 3905, 4106, 4107, 4108, 4109, 4110, 4111, 1742, 4535, 5115, 5361, 5362, 3855,
+    4184, 4185, 4186, 4187, 2332, 2405, 2936, 816, 817, 818, 819, 820, 2372, 3807, 3910, 3844, 4188, 4189, 2454, 1121,
+    1122, 1123, 1124, 2595, 3680, 4190, 2023, 4191, 4192, 5222, 5223, 3029, 2565, 5224, 5225, 5226, 2554, 2685, 3142,
+    5227, 1869, 3610, 2980, 5228, 5229, 1659, 5363, 5364, 1195, 897, 4572, 4573, 5608, 5626, 5696, 3635, 5991, 5991,
+    1457, 1729, 5991, 5991, 5991, 5991, 5991, 5991, 5991, 5991, 5991, 1570, 5991, 5991, 5991, 2480, 5991, 2084, 4465,
+    5991, 5991, 302, 303, 1079, 1080, 1081, 1205, 4517, 5848, 2000, 4010, 5849, 5991, 2036, 5991, 5991, 5991, 3944,
+    2925, 3060, 5991, 5991, 3155, 3882, 3275, 1902, 3276, 3225, 1630, 2808, 2529, 3226, 3227, 2988, 3277, 3326, 3327,
+    2229, 3517, 3758, 2829, 3018, 581, 1612, 2369, 1439, 4499, 4677, 5426, 5653, 5654, 5660, 2759, 5991, 97, 5991, 1233,
+    5708, 5991, 5991, 189, 3091, 3457, 5991, 3480, 5991, 2636, 5991, 3829, 5991, 5991, 5991, 5991, 1808, 1843, 5991,
+    5991, 4059, 4633, 1403, 4634, 368, 4635, 4636, 4637, 5991, 5991, 5991, 134, 1937, 5991, 5991, 5991, 2465, 4333,
+    2262, 3535, 2719, 4334, 2191, 4335, 1519, 3365, 3366, 2847, 3367, 3368, 3369, 2385, 2576, 6, 7, 3370, 3768, 3997,
+    4472, 4835, 5991, 5991, 5991, 1241, 5991, 5991, 5991, 5991, 5991, 996, 5991, 4546, 3488, 473, 474, 3621, 5991, 662,
+    663, 664, 5991, 1483, 1703, 1857, 3701, 5081, 5082, 1973, 3027, 5083, 5991, 2958, 5991, 5991, 5991, 5991, 4619,
+    4620, 5991, 5991, 2383, 5991, 5991, 5991, 5991, 5991, 5991, 5991, 5991, 1494, 5991, 1665, 5991, 5991, 5991, 5991,
+    1828, 42, 43, 1338, 3037, 4742, 4743, 2754, 4744, 4745, 4746, 555, 4747, 4748, 1592, 2549, 1917, 1061, 1062, 1063,
+    1064, 1065, 2119, 83, 2528, 348, 349, 383, 384, 4749, 5473, 5562, 5991, 5991, 5991, 5991, 1302, 2223, 2079, 5991,
+    5991, 5991, 5991, 1717, 439, 2286, 5991, 345, 5991, 5991, 5991, 5991, 5991, 1481, 1562, 3846, 1478, 5523, 5991,
+    5991, 5991, 5991, 5991, 1282, 5991, 2136, 5991, 5991, 5991, 5991, 1555, 2183, 5991, 5991, 5991, 5579, 5991, 2911,
+    2649, 5991, 5991, 3830, 860, 861, 862, 2054, 5991, 931, 2429, 380, 381, 135, 739, 740, 741, 742, 743, 744, 745, 746,
+    1683, 2521, 2804, 3928, 5489, 5490, 5930, 4023, 4024, 5153, 5154, 1496, 5155, 3590, 5156, 5157, 5158, 1369, 606,
+    5159, 1471, 3671, 5931, 5991, 5991, 5991, 5991, 5991, 5991, 5991, 5991, 147, 2608, 5991, 1657, 5991, 2868, 5991,
+    5991, 5769, 5597, 5770, 5991, 5991, 5541, 5991, 879, 5991, 5991, 535, 536, 2068, 3100, 1770, 4092, 4093, 485, 2494,
+    4094, 4095, 1697, 1738, 2532, 3411, 2514, 2102, 4324, 4237, 3860, 4238, 4239, 4240, 4241, 4325, 4345, 4505, 2168,
+    4511, 4603, 4604, 3075, 2227, 4850, 5188, 217, 218, 5189, 5190, 4501, 5191, 3955, 938, 2817, 4022, 5192, 5407, 2268,
+    2574, 1652, 1790, 5487, 2518, 1013, 5508, 5509, 5615, 5902, 5903, 5969, 5978, 5979, 2989, 2990, 4932, 4933, 4581,
+    908, 4582, 355, 2314, 1388, 3092, 529, 530, 460, 461, 1724, 2377, 2774, 3429, 3775, 3965, 4235, 162, 4934, 4935,
+    5388, 5389, 5390, 830, 831, 832, 165, 833, 834, 5980, 282, 283, 4522, 5991, 5991, 5991, 5991, 1796, 5991, 4005,
+    5991, 1215, 2017, 2364, 3444, 1306, 5642, 1873, 1511, 5643, 5991, 5991, 436, 5633, 5991, 3603, 3234, 3, 3235, 2430,
+    3236, 5991, 1047, 3977, 918, 3978, 236, 237, 3979, 2834, 2896, 1625, 586, 4030, 3262, 32, 33, 4292, 5434, 5435,
+    5991, 5991, 5991, 5991, 5991, 1581, 432, 5991, 5991, 5991, 5991, 1007, 2081, 4624, 4625, 4626, 5991, 5991, 5991,
+    5991, 5991, 5862, 1811, 1846, 3105, 3106, 2030, 3033, 1413, 141, 1599, 3053, 3394, 1987, 5697, 5863, 3148, 4668,
+    5991, 5991, 614, 5991, 1639, 2158, 2257, 3524, 5991, 626, 627, 628, 2578, 1532, 3337, 3338, 3339, 3693, 3751, 4833,
+    1446, 1925, 2374, 5991, 5991, 5991, 5991, 5991, 5991, 5991, 5991, 5991, 1232, 5991, 5991, 3448, 3673, 955, 956,
+    4390, 3497, 4391, 4392, 5075, 5076, 5077, 5991, 5991, 5991, 3570, 5991, 2768, 4070, 204, 3873, 1400, 1979, 5991,
+    5991, 5991, 5991, 5991, 5991, 1919, 5991, 5991, 5991, 3861, 5991, 5991, 5991, 5991, 2728, 3526, 5516, 4734, 2570,
+    1518, 3380, 3763, 1939, 4735, 4736, 4737, 5991, 5991, 1330, 2457, 3988, 5991, 5991, 5991, 5991, 66, 67, 68, 1237,
+    2177, 2323, 2969, 1961, 3664, 980, 981, 5684, 3617, 5973, 5991, 5991, 3557, 2893, 4034, 5991, 5991, 3505, 1712, 881,
+    5991, 5991, 251, 252, 2852, 5991, 458, 5472, 5991, 5991, 2348, 5991, 5991, 5991, 514, 515, 359, 3464, 5810, 1629,
+    5811, 2971, 5991, 5991, 3739, 5991, 1991, 5991, 4349, 5991, 3898, 5991, 376, 5991, 5717, 420, 421, 1950, 1780, 5718,
+    98, 5991, 5031, 2093, 5032, 5033, 2548, 5569, 5789, 2112, 5991, 5991, 2065, 2242, 2626, 5991, 5991, 5991, 5991,
+    5991, 5991, 5991, 5991, 5991, 5940, 5941, 5991, 4482, 1211, 5991, 5991, 5991, 5991, 4840, 4841, 5991, 5138, 5139,
+    5140, 5141, 5142, 5143, 5144, 5145, 506, 507, 5463, 5991, 2418, 5991, 3638, 5991, 119, 2134, 1179, 3907, 5439, 5991,
+    5991, 5296, 5297, 5298, 5299, 5300, 5991, 5991, 492, 493, 2282, 1655, 2646, 5535, 2716, 5586, 1818, 3796, 1888,
+    4802, 4803, 4804, 4805, 731, 732, 156, 733, 734, 735, 736, 737, 738, 1676, 1752, 2526, 3414, 4319, 1896, 4320, 4806,
+    5452, 5779, 5172, 5173, 2010, 5174, 2781, 5175, 5780, 5808, 5809, 315, 316, 2305, 5912, 5913, 2498, 2435, 5991,
+    5991, 5991, 5991, 5991, 5991, 1342, 2617, 2277, 1910, 1582, 2875, 5991, 1019, 1020, 4701, 3650, 1313, 4702, 4703,
+    5604, 5991, 5991, 5991, 5991, 5991, 5991, 5991, 5991, 5991, 5991, 1387, 3176, 5343, 5344, 5345, 5346, 1746, 464,
+    3432, 4296, 5347, 4263, 4264, 3539, 4265, 2336, 2940, 2489, 3811, 4143, 5884, 2163, 5885, 5991, 4047, 4311, 2212,
+    5991, 5991, 5991, 2482, 1111, 1112, 5820, 5821, 5991, 5991, 5991, 5991, 2357, 5991, 5991, 5694, 1362, 1800, 2203,
+    5991, 5991, 3138, 5512, 5513, 5622, 219, 1931, 2976, 5991, 5991, 5991, 2328, 5991, 5991, 907, 5991, 3776, 5991,
+    5991, 5991, 5991, 591, 5991, 1453, 1733, 5991, 5991, 5991, 5991, 5991, 5991, 5991, 5991, 5991, 1574, 5991, 5991,
+    5991, 5991, 4459, 5991, 4309, 3125, 5991, 293, 294, 5991, 5991, 5991, 5991, 153, 1793, 5872, 4014, 2542, 4853, 2018,
+    5650, 1412, 1604, 3056, 2921, 247, 1993, 2401, 2744, 3151, 1229, 3875, 3948, 3202, 3203, 3204, 3205, 1096, 1097,
+    1098, 1099, 2902, 3206, 3207, 3296, 3297, 798, 799, 576, 800, 801, 22, 23, 1434, 1616, 1627, 2425, 2908, 3014, 1172,
+    440, 441, 2959, 3754, 2820, 3461, 3864, 3924, 1006, 3636, 3484, 4649, 4711, 5069, 5070, 5071, 5422, 5640, 2301,
+    1804, 1839, 5786, 5844, 4063, 5845, 5873, 1295, 5991, 3046, 5991, 5991, 4727, 4728, 4660, 4661, 4662, 5991, 5991,
+    5991, 565, 2151, 2469, 3515, 2723, 3335, 2187, 3336, 1523, 3922, 5519, 2843, 1610, 2825, 2970, 3686, 5991, 5991,
+    5991, 5991, 5991, 5991, 5991, 5991, 3677, 5991, 5991, 4817, 4818, 5710, 4420, 4421, 4422, 939, 940, 2508, 3492,
+    4412, 4413, 1505, 2669, 1323, 4423, 3405, 5991, 1853, 1707, 5991, 205, 5991, 5991, 1982, 5991, 5991, 5991, 5991,
+    5991, 5991, 5991, 5991, 5991, 3119, 3564, 4144, 4145, 4146, 4147, 4148, 2733, 431, 1488, 3705, 4149, 1328, 5991,
+    5991, 5025, 5026, 5027, 5991, 5991, 5991, 1333, 5728, 5991, 5991, 5991, 4468, 69, 70, 71, 4312, 5991, 5691, 5991,
+    5991, 1534, 978, 979, 1147, 1148, 1149, 2945, 5117, 5991, 333, 334, 335, 2886, 3550, 5876, 5877, 5991, 5991, 5991,
+    3953, 5991, 5991, 5991, 5991, 5991, 5991, 5991, 2290, 2349, 5954, 2107, 5991, 5991, 5991, 5991, 2803, 5991, 1479,
+    1566, 5991, 5991, 3740, 5991, 5991, 5991, 2944, 5991, 5991, 5991, 2140, 3434, 2622, 1957, 5743, 1551, 1789, 2179,
+    3008, 4796, 4797, 2088, 4798, 2653, 4799, 2322, 3576, 868, 5575, 5744, 2058, 5991, 4529, 5991, 5991, 5991, 5991,
+    3399, 3932, 595, 1671, 2394, 3578, 5991, 2814, 1303, 3541, 5991, 5991, 5991, 5991, 5991, 5781, 2590, 5991, 5991,
+    5991, 5991, 5991, 5451, 5991, 3906, 2439, 596, 597, 598, 599, 600, 601, 602, 665, 666, 1146, 1467, 3633, 54, 2604,
+    4914, 2693, 1648, 4915, 2864, 3825, 2414, 4916, 3645, 2659, 4917, 4918, 4919, 5301, 1050, 1051, 1052, 1889, 200,
+    2072, 924, 3096, 3384, 3385, 3797, 4122, 4123, 201, 1685, 1757, 3407, 4124, 4125, 2051, 3010, 3883, 4126, 4127,
+    4128, 4129, 4130, 4131, 4250, 2880, 1997, 2172, 4251, 4252, 3071, 395, 2133, 4253, 4254, 5113, 5302, 5303, 5304,
+    5305, 5403, 1041, 5529, 1259, 2583, 3470, 2272, 180, 1903, 2497, 4776, 3827, 1018, 4777, 4680, 4681, 4682, 4683,
+    2793, 4684, 111, 3002, 3281, 1900, 3282, 3283, 3284, 3285, 2310, 3286, 3287, 1207, 3709, 213, 3787, 1743, 3425,
+    4536, 5316, 5317, 5318, 4177, 4178, 4179, 4180, 4181, 2933, 3349, 2316, 813, 814, 169, 815, 3350, 2711, 2219, 3351,
+    3801, 4182, 4183, 139, 1135, 1136, 1137, 1138, 1139, 2437, 4009, 2028, 4460, 5373, 5374, 5375, 5376, 5498, 5499,
+    1024, 2559, 2688, 3139, 4658, 3607, 4659, 1930, 1645, 2434, 5531, 5593, 5611, 5629, 922, 5761, 226, 227, 228, 1503,
+    5762, 582, 5894, 5895, 1459, 5991, 5991, 5991, 453, 454, 4562, 3391, 3392, 3393, 4563, 1569, 410, 5991, 5991, 5991,
+    5991, 2085, 5991, 5991, 5991, 313, 314, 635, 636, 637, 638, 639, 640, 641, 642, 643, 1067, 1068, 1069, 1070, 1317,
+    1417, 143, 1428, 1429, 528, 1430, 1595, 1227, 1963, 2003, 2041, 1635, 2154, 2261, 2587, 2926, 3049, 3163, 3209,
+    3210, 3211, 3212, 2832, 779, 780, 781, 782, 1262, 1442, 1611, 1037, 1718, 2248, 2780, 2162, 3213, 3214, 94, 3315,
+    3520, 3747, 3871, 3452, 194, 965, 966, 967, 968, 969, 3596, 3891, 3879, 1324, 3943, 4354, 4355, 4532, 4534, 2764,
+    4058, 4676, 4816, 1404, 364, 5429, 5442, 5661, 5662, 5663, 5705, 122, 5854, 5855, 5022, 5023, 3858, 5024, 5527,
+    5991, 2732, 5991, 5991, 5991, 5991, 1522, 3761, 5991, 5991, 5991, 5991, 5991, 5991, 5991, 2461, 3028, 5991, 3960,
+    5991, 2684, 5991, 5991, 1379, 5991, 5991, 2965, 3660, 3462, 3661, 4433, 988, 989, 4434, 3840, 479, 480, 4435, 4543,
+    2889, 3009, 5991, 5991, 3597, 1700, 885, 2228, 3704, 5991, 5991, 5991, 5991, 438, 2701, 5991, 5991, 5991, 5991,
+    5991, 5991, 522, 523, 363, 2677, 5991, 5991, 5991, 5991, 5991, 4787, 4788, 1500, 4789, 4790, 4791, 4792, 5991, 1827,
+    4076, 38, 39, 1340, 1946, 5724, 5991, 5991, 5991, 5991, 2320, 1242, 2097, 4363, 4364, 557, 558, 1158, 1159, 1058,
+    1059, 1160, 84, 1540, 2124, 2954, 1583, 3568, 5543, 2575, 3395, 5544, 5545, 3725, 5546, 2451, 4478, 5565, 5796,
+    5797, 4899, 4900, 2283, 244, 245, 246, 344, 670, 2342, 4901, 4902, 3806, 4903, 4904, 4905, 4906, 5990, 3733, 51,
+    5991, 5991, 3915, 1175, 5991, 5991, 5991, 5991, 5738, 5991, 2182, 1552, 5991, 5991, 5991, 498, 499, 2914, 1311,
+    2650, 5582, 5991, 841, 842, 843, 844, 845, 846, 933, 760, 761, 762, 763, 764, 2130, 3833, 1680, 1756, 3902, 2522,
+    2805, 3927, 4120, 4121, 5936, 5937, 5991, 5991, 5991, 4848, 5991, 5991, 5991, 672, 5991, 5991, 5991, 3504, 5991,
+    2601, 5991, 1474, 5991, 5991, 5991, 5991, 5991, 5991, 5991, 5991, 5991, 5991, 2613, 5268, 5269, 1558, 2871, 102,
+    103, 3159, 5270, 5271, 5272, 5273, 5274, 2786, 5275, 5600, 5991, 1882, 3790, 5991, 3099, 4089, 1773, 2410, 3171,
+    370, 3941, 4090, 1694, 4091, 1735, 462, 3412, 5414, 2077, 4000, 4276, 4277, 4278, 4279, 4280, 5479, 5991, 5991,
+    5991, 2167, 5991, 5991, 5991, 5991, 1373, 2216, 5991, 5991, 5991, 5991, 5828, 5829, 3956, 5991, 4019, 5991, 5991,
+    120, 1872, 3256, 3257, 1765, 3258, 2199, 1034, 1035, 2538, 3667, 1994, 5476, 3087, 2800, 5618, 2995, 5991, 3715,
+    3593, 5991, 2603, 5991, 5991, 3772, 5385, 1251, 5386, 5387, 2376, 5991, 1721, 5991, 5991, 5462, 5991, 4229, 2296,
+    159, 4230, 5991, 77, 5991, 4719, 4720, 5991, 5991, 1509, 997, 5987, 5991, 4558, 284, 285, 286, 4525, 5991, 5991,
+    1797, 2399, 5864, 5865, 5991, 5991, 3107, 1600, 3108, 1308, 2634, 1874, 3814, 3952, 5646, 2748, 3132, 4653, 5636,
+    4566, 4814, 5647, 5664, 5782, 2906, 5467, 1042, 2582, 3304, 242, 243, 3305, 3306, 99, 2823, 589, 1620, 2837, 28, 29,
+    1591, 2566, 5418, 5441, 5482, 5670, 278, 279, 1576, 417, 5671, 5991, 5991, 197, 5991, 4303, 5991, 5455, 5991, 5991,
+    5991, 5991, 404, 405, 406, 5836, 1851, 4561, 5837, 2473, 2035, 5005, 1395, 4493, 5006, 3042, 5007, 5008, 5009, 5010,
+    5011, 5012, 5013, 5014, 5015, 5016, 1644, 2147, 5017, 3021, 3511, 5018, 1181, 5991, 1527, 3748, 5991, 3690, 5991,
+    3963, 5436, 3657, 5991, 16, 17, 5991, 5991, 2249, 3161, 3162, 5991, 5991, 5991, 5991, 5991, 5991, 4432, 2237, 2176,
+    947, 948, 3496, 4403, 4404, 4405, 5991, 3878, 5991, 5991, 5991, 5991, 5991, 2771, 5991, 4065, 3841, 5991, 1978,
+    1585, 1356, 5991, 2755, 5991, 5991, 5991, 1926, 5991, 3115, 5991, 5991, 5991, 5991, 3067, 3529, 2709, 2737, 5991,
+    5991, 1513, 2567, 5991, 1960, 3567, 5991, 4348, 5991, 1463, 3991, 840, 5991, 5991, 5991, 5991, 5991, 5991, 5991,
+    5991, 2381, 1561, 5687, 4608, 2045, 4609, 986, 987, 2254, 3618, 4610, 2949, 4611, 4612, 5991, 2882, 4882, 4883,
+    4884, 673, 1709, 3445, 4885, 4886, 253, 254, 1167, 1359, 1419, 1971, 4887, 4888, 2294, 2345, 5806, 5807, 508, 509,
+    5991, 5991, 5991, 5991, 5991, 5991, 5991, 5991, 3736, 5991, 1992, 5991, 5991, 5991, 1286, 1834, 3895, 5991, 1953,
+    5991, 5991, 1785, 2438, 2660, 2682, 5991, 5572, 2092, 5991, 2657, 3069, 3187, 2117, 869, 870, 871, 872, 873, 2062,
+    2625, 690, 691, 692, 693, 694, 2698, 91, 1675, 3345, 3936, 4551, 4645, 5790, 5791, 5792, 5946, 3192, 5947, 5716,
+    5991, 5991, 5991, 5991, 5991, 1385, 3587, 5991, 2104, 2443, 5991, 5991, 5991, 5991, 5991, 5991, 5991, 5991, 5991,
+    5991, 5991, 5991, 5991, 3545, 5287, 5288, 1545, 5289, 2860, 3821, 5991, 5589, 5991, 374, 5991, 5991, 2777, 5991,
+    2131, 5991, 3793, 1885, 2076, 928, 4136, 4137, 5991, 5394, 1249, 5395, 3626, 1689, 5396, 1761, 3419, 5918, 5919,
+    5991, 5991, 1893, 5991, 5991, 5991, 5991, 5991, 5991, 2011, 5991, 5991, 5991, 5991, 5991, 5991, 5991, 325, 326,
+    5060, 5061, 5062, 2390, 2503, 5991, 5991, 5991, 5991, 1260, 3208, 5991, 2276, 184, 1907, 5991, 2874, 2562, 5991,
+    5991, 4698, 4699, 1315, 4700, 2797, 3065, 5607, 2998, 5966, 3714, 5967, 4591, 934, 1196, 3783, 4105, 3172, 4592,
+    4593, 4502, 4594, 1747, 5357, 541, 542, 543, 544, 2233, 3854, 4209, 4210, 2333, 2937, 4077, 4078, 4211, 2373, 4212,
+    4213, 4214, 4046, 4215, 3843, 4216, 4295, 2596, 2463, 1117, 1118, 1119, 1120, 2972, 3679, 5218, 1778, 469, 470,
+    2024, 2356, 3668, 4813, 5219, 1029, 2555, 3135, 1223, 5220, 3611, 1870, 1934, 5221, 5358, 5359, 5360, 5502, 5503,
+    893, 894, 895, 896, 3089, 4574, 4575, 594, 4576, 4577, 1456, 1726, 4578, 5530, 5625, 2144, 5695, 3674, 5702, 5755,
+    5756, 1573, 5890, 5891, 5991, 2481, 5991, 4989, 4471, 4990, 4520, 304, 305, 1082, 1083, 1084, 152, 423, 1085, 4991,
+    4011, 4992, 2037, 4993, 1406, 1607, 3947, 2922, 3061, 4994, 4995, 4996, 3156, 1225, 3295, 3886, 4646, 4647, 1631,
+    4648, 4997, 2901, 3921, 3324, 3325, 4643, 3759, 4644, 5425, 2828, 5454, 3968, 580, 1615, 1438, 4500, 4842, 4843,
+    5991, 5991, 5991, 2760, 3031, 5991, 442, 443, 5991, 5991, 5447, 1913, 190, 3456, 5991, 5991, 3479, 2641, 5991, 1345,
+    5991, 5991, 5991, 2300, 3039, 1805, 1844, 3437, 4062, 4567, 5991, 1392, 367, 5991, 5991, 5991, 5991, 5991, 5991,
+    5991, 5991, 5991, 5991, 5991, 4330, 2148, 2466, 2263, 2720, 3534, 2192, 4331, 4332, 1526, 3769, 5991, 2846, 48, 49,
+    50, 1266, 2386, 1334, 2398, 3378, 3996, 4830, 4831, 5437, 5991, 5991, 5991, 4865, 4866, 4442, 4867, 4868, 4869, 995,
+    4870, 3487, 3622, 471, 472, 4547, 4871, 1322, 4, 3402, 1858, 4872, 1704, 3700, 4873, 3813, 1972, 5991, 5991, 5991,
+    2665, 5991, 5991, 771, 772, 773, 5991, 3116, 2673, 5108, 5109, 5110, 5991, 5991, 5991, 1487, 5991, 5991, 5991, 1495,
+    5991, 5991, 4001, 5991, 5991, 1831, 5991, 5991, 1337, 3040, 5991, 5991, 2753, 4569, 5991, 5991, 5561, 2101, 5991,
+    5991, 211, 5991, 2120, 5991, 5991, 5991, 5991, 3266, 3267, 4769, 342, 176, 343, 3553, 4770, 5991, 5991, 5991, 5991,
+    4002, 3802, 1300, 1301, 2224, 5991, 5991, 5991, 3090, 2287, 2338, 448, 5977, 5991, 5991, 5991, 5991, 1985, 5991,
+    5524, 5818, 5819, 1477, 5991, 1329, 5991, 5991, 5991, 5991, 1281, 5991, 5991, 5991, 2619, 5739, 5740, 2178, 1548,
+    1786, 5991, 5991, 5991, 5578, 5991, 2654, 5991, 5991, 5991, 856, 857, 858, 859, 2055, 5991, 5991, 687, 378, 379,
+    688, 689, 3931, 2391, 90, 5991, 5928, 5929, 248, 249, 2210, 3544, 5991, 5991, 5051, 5052, 5053, 5054, 5055, 5056,
+    5991, 5991, 5991, 3588, 5991, 5991, 605, 1203, 1367, 1470, 5991, 5991, 5991, 5991, 5991, 5991, 3969, 5991, 5991, 57,
+    146, 2609, 5244, 1658, 2867, 110, 5245, 3169, 5246, 3642, 5247, 3612, 5248, 5249, 5596, 5767, 5768, 533, 534, 1878,
+    1198, 2069, 1769, 3095, 2495, 4098, 4099, 4100, 1698, 4506, 1739, 3408, 2513, 5410, 2046, 4236, 3852, 5900, 5901,
+    2535, 5991, 5180, 5181, 5182, 3082, 2171, 5183, 5184, 1766, 3074, 2252, 5185, 5186, 5187, 5991, 5488, 5991, 5991,
+    5991, 889, 5991, 5991, 4074, 3467, 5991, 5991, 2579, 5991, 5991, 5991, 1012, 2519, 5614, 3834, 5991, 5991, 5991,
+    5991, 5991, 2991, 5991, 3719, 5991, 5991, 4583, 5991, 3784, 354, 2313, 3177, 1349, 3178, 2380, 2775, 1725, 3179,
+    3426, 4982, 4983, 4233, 4234, 163, 4984, 4985, 4986, 2934, 433, 826, 827, 828, 486, 829, 999, 2712, 4521, 4987,
+    4988, 5214, 5215, 5216, 5217, 5369, 5370, 5371, 3849, 4006, 3441, 2025, 2363, 5372, 2630, 3064, 5775, 5776, 5991,
+    5991, 2556, 3128, 4657, 5632, 5991, 3237, 3238, 2431, 3005, 3239, 4050, 1046, 5991, 5991, 234, 235, 5991, 5991,
+    2833, 5991, 585, 1425, 1624, 5991, 5991, 5991, 4291, 5991, 5991, 5991, 5991, 5991, 5991, 1580, 5991, 4780, 4781,
+    4782, 5991, 2082, 5991, 3123, 5991, 5991, 1273, 5991, 5991, 2898, 5991, 5860, 5861, 1812, 1847, 3103, 3104, 2031,
+    5991, 1414, 1598, 5991, 2584, 3054, 1990, 5991, 3149, 4667, 5991, 5991, 5991, 4826, 1640, 2407, 2159, 2258, 3523,
+    624, 625, 1183, 3322, 1531, 3323, 3744, 786, 787, 788, 396, 789, 1449, 1924, 3694, 4827, 5428, 4838, 5991, 4531,
+    5991, 5991, 5991, 5991, 5703, 5991, 5991, 191, 3447, 953, 954, 3500, 3909, 4387, 4388, 4389, 5991, 5991, 5991, 5991,
+    1861, 3569, 2767, 5991, 2044, 3868, 1401, 4069, 5102, 5103, 5104, 5991, 4491, 1891, 2464, 1920, 5991, 5991, 5991,
+    5991, 4463, 5991, 3396, 3525, 2725, 5991, 1192, 5991, 1517, 2571, 3764, 1940, 270, 5991, 5991, 2387, 1264, 2458,
+    774, 775, 5991, 5991, 5991, 4766, 4767, 5972, 5991, 2326, 5991, 3665, 5683, 2014, 4713, 994, 4714, 4715, 5991, 5991,
+    5991, 5991, 5991, 2111, 2894, 3556, 4033, 2324, 2509, 1713, 3506, 5991, 5991, 1967, 5991, 5991, 5991, 5991, 5991,
+    4825, 5991, 5991, 5991, 5991, 5991, 516, 358, 517, 2678, 3463, 5991, 2982, 5991, 5991, 5991, 1327, 1497, 5991, 5991,
+    5991, 5991, 3581, 3185, 34, 35, 1949, 4075, 5719, 1781, 2752, 5720, 5991, 2317, 5568, 2096, 4361, 126, 127, 128,
+    208, 209, 2113, 2422, 2066, 2241, 2496, 2547, 3377, 175, 3188, 132, 3189, 4362, 4476, 5048, 5049, 5050, 5457, 2448,
+    4483, 5798, 5799, 5991, 5991, 5991, 5991, 5134, 5135, 5136, 5137, 5449, 5991, 5991, 5991, 5991, 5991, 5991, 5991,
+    2419, 5991, 5991, 5991, 2143, 3908, 1176, 5991, 5991, 5991, 5991, 5732, 5733, 5991, 1541, 5991, 2856, 5991, 494,
+    495, 500, 501, 1654, 2647, 2807, 2127, 1819, 2985, 3999, 4474, 5585, 3546, 5991, 716, 717, 164, 718, 719, 720, 721,
+    722, 723, 724, 725, 726, 727, 728, 729, 730, 1677, 1749, 2713, 3415, 3697, 4318, 4810, 2802, 4811, 5164, 5165, 5166,
+    1370, 317, 318, 1473, 5167, 5168, 1040, 2484, 2499, 5169, 5170, 2931, 3438, 5171, 2618, 5910, 5911, 5991, 1588,
+    2870, 4488, 5991, 5991, 5603, 5991, 1312, 5991, 2785, 5991, 5991, 5991, 5991, 5991, 4962, 4605, 4115, 3984, 3985,
+    4116, 369, 1246, 2704, 399, 400, 1736, 3433, 4117, 4507, 4299, 4606, 4272, 4273, 4274, 4275, 4963, 2941, 2490, 3810,
+    4964, 4965, 4966, 4967, 4310, 4968, 2211, 4969, 5333, 5334, 5335, 2483, 5336, 5337, 5338, 5339, 5340, 5341, 117,
+    118, 2360, 2986, 5342, 2983, 1815, 2202, 5438, 5693, 5822, 5621, 3828, 5823, 5882, 1866, 2799, 2979, 3249, 3250,
+    2329, 4607, 4570, 904, 905, 906, 3777, 4571, 5883, 5991, 590, 2776, 4778, 1452, 1730, 5991, 5991, 5991, 4224, 4225,
+    4226, 4227, 4228, 5991, 5991, 5991, 5991, 5991, 5991, 5991, 4308, 3126, 4557, 295, 296, 297, 4516, 5991, 5991, 5991,
+    1794, 5870, 5871, 4015, 5991, 2019, 465, 466, 1310, 1409, 1603, 2406, 1998, 2417, 2635, 2743, 3057, 3152, 3951,
+    4652, 3240, 3241, 3242, 4864, 1100, 1101, 1102, 912, 1185, 2905, 3755, 5421, 2840, 794, 795, 575, 796, 797, 24, 25,
+    1433, 1619, 1628, 2426, 2756, 2916, 280, 281, 3017, 1421, 1422, 1423, 1424, 2821, 58, 1005, 3460, 3483, 2602, 3863,
+    5096, 5097, 5098, 5639, 2304, 2477, 1840, 2624, 5655, 5668, 5669, 5787, 1396, 4494, 3047, 5842, 5843, 5991, 5991,
+    5991, 5991, 5991, 5991, 264, 265, 266, 267, 564, 1641, 2470, 2724, 2188, 3514, 5520, 1530, 5991, 5991, 2842, 3687,
+    1293, 3964, 5991, 12, 13, 5991, 5991, 5991, 5991, 5991, 5991, 5991, 5991, 5991, 1239, 5711, 4414, 4415, 4416, 4417,
+    4418, 4411, 3491, 4419, 4443, 4444, 1504, 1321, 5991, 4823, 5991, 1854, 5991, 2770, 1364, 206, 3851, 1981, 5991,
+    5991, 5991, 5991, 5991, 5991, 667, 1921, 5991, 5991, 3113, 5991, 5991, 5991, 5991, 5991, 2708, 2734, 3532, 5991,
+    5991, 2568, 5991, 5991, 1666, 5991, 5991, 4347, 5991, 5991, 2485, 1066, 1332, 3994, 5729, 4467, 5991, 72, 73, 531,
+    532, 5045, 5046, 5047, 5690, 5991, 976, 977, 4549, 5474, 5991, 2640, 2946, 3549, 3259, 2887, 1209, 5991, 3465, 5832,
+    5833, 5991, 5991, 1420, 3094, 3959, 5991, 5991, 3066, 5991, 1984, 2291, 2350, 5991, 2108, 5991, 5991, 5991, 5991,
+    5991, 4461, 5525, 5991, 1565, 5991, 3741, 5991, 5991, 5991, 5991, 2306, 5991, 1833, 2139, 3435, 5745, 1956, 5746,
+    2297, 1782, 5991, 5991, 3019, 5448, 5991, 5991, 2658, 3165, 3166, 2537, 866, 867, 3167, 2059, 210, 1801, 2240, 702,
+    703, 136, 704, 705, 573, 706, 707, 708, 1672, 2395, 2813, 212, 3400, 3540, 3575, 3722, 3935, 4533, 5440, 2591, 5130,
+    5131, 5132, 5133, 2909, 5465, 5537, 2440, 1365, 5753, 1466, 2267, 3273, 1390, 3634, 5754, 3630, 1287, 5991, 3837,
+    5991, 53, 150, 2605, 2694, 1649, 2863, 3824, 2415, 4613, 3646, 1219, 373, 4614, 4615, 4949, 4950, 1820, 4951, 1890,
+    2073, 3389, 3390, 4135, 4952, 4953, 185, 483, 4954, 3631, 1686, 5306, 1758, 3420, 4568, 3022, 3884, 4248, 4249,
+    5307, 5406, 5443, 5592, 5759, 5760, 5892, 5893, 5991, 5991, 5991, 5991, 5991, 2160, 5991, 5991, 5991, 5991, 5991,
+    5991, 5991, 5991, 1038, 5991, 5991, 5991, 3471, 3862, 179, 1904, 2271, 2207, 2505, 1016, 1017, 2877, 3826, 4679,
+    5319, 5320, 2792, 5321, 3003, 3288, 3289, 1901, 3290, 937, 1197, 3291, 2309, 1253, 3292, 3293, 3294, 3780, 4104,
+    1744, 3422, 4537, 2230, 5353, 4168, 4169, 4170, 2, 4171, 2403, 2938, 3809, 4172, 4173, 2592, 168, 3086, 4174, 4175,
+    2218, 4176, 4358, 1343, 2446, 1130, 1131, 1132, 1133, 1134, 2597, 5235, 2021, 4857, 5236, 5354, 1305, 5355, 5356,
+    339, 5610, 5976, 2687, 3140, 5628, 5991, 3604, 1929, 1646, 5991, 5991, 5991, 2330, 3980, 3981, 921, 223, 224, 225,
+    5991, 5991, 5991, 5991, 5991, 1455, 5991, 5991, 5991, 5090, 451, 452, 5091, 5092, 5991, 5991, 5991, 5991, 5991,
+    5991, 2478, 5991, 5991, 5991, 5991, 5991, 306, 307, 308, 629, 630, 631, 632, 633, 634, 1071, 1072, 1073, 1074, 2042,
+    1418, 1594, 4527, 2588, 2927, 3050, 4638, 3145, 4675, 4757, 4758, 4759, 3219, 1636, 3220, 2155, 3221, 3519, 3330,
+    2552, 3331, 4760, 3756, 4761, 4762, 2831, 2810, 5424, 4497, 2367, 1445, 3869, 5659, 5852, 5853, 5964, 5965, 5991,
+    5991, 95, 2047, 1236, 4821, 5706, 5991, 487, 3451, 964, 5991, 3478, 1376, 3595, 5991, 5991, 5991, 5991, 5991, 5991,
+    1841, 5991, 2763, 5991, 5991, 3078, 1405, 5991, 366, 5991, 5991, 5991, 5991, 5991, 5991, 5991, 5991, 5991, 5991,
+    5991, 4328, 4329, 5991, 5991, 2729, 4503, 2193, 5991, 1521, 5991, 5991, 5991, 5991, 5991, 5040, 5041, 5042, 2462,
+    676, 5991, 5991, 5991, 5991, 5991, 5991, 5991, 5991, 5991, 1240, 2966, 4440, 4441, 5991, 5991, 142, 4544, 3623, 477,
+    478, 3839, 5991, 4045, 2890, 5991, 5991, 5991, 1701, 884, 2236, 3703, 5991, 5991, 5991, 5991, 5991, 457, 2710, 5991,
+    5991, 5991, 5991, 5991, 5991, 524, 362, 525, 2674, 3352, 2695, 5522, 2492, 5991, 5991, 5991, 5991, 1660, 5991, 5991,
+    5991, 5991, 1826, 5991, 5991, 1945, 5725, 5991, 5991, 4808, 5991, 5991, 1962, 2100, 5564, 5991, 5991, 5991, 1837,
+    1156, 1157, 1056, 1057, 2125, 2955, 5991, 5991, 340, 341, 5991, 5991, 5991, 5991, 5991, 5991, 3726, 5991, 2452,
+    3881, 4479, 5991, 5991, 5991, 1269, 5991, 1668, 2284, 2343, 5991, 5991, 671, 5991, 5991, 5991, 5991, 1485, 1564,
+    5991, 5991, 3734, 4936, 4937, 4938, 3916, 4939, 4940, 4941, 2138, 4942, 5464, 5991, 5991, 1361, 1553, 2181, 3030,
+    5991, 5581, 5553, 5554, 2651, 5555, 2779, 3832, 5532, 5991, 5991, 5991, 3903, 5991, 4119, 755, 756, 757, 758, 759,
+    3926, 1681, 5991, 1753, 5934, 2523, 2778, 5935, 5991, 5991, 5991, 5991, 5991, 5991, 5991, 5991, 5991, 5991, 5991,
+    5991, 5991, 5991, 5991, 3503, 608, 609, 610, 611, 612, 613, 1469, 2643, 5991, 5991, 5991, 5991, 5991, 145, 1341,
+    2614, 5276, 1559, 2866, 100, 101, 5277, 3643, 5278, 178, 3818, 2789, 5279, 5280, 5281, 3791, 1883, 5282, 3098, 4085,
+    1772, 1537, 3170, 1208, 3940, 4086, 4087, 1695, 3413, 4088, 5283, 2512, 2078, 5413, 4287, 4288, 4344, 5526, 5540,
+    5599, 5765, 5766, 3083, 2166, 5906, 5907, 5982, 5991, 2175, 2215, 5991, 5991, 5991, 5991, 5991, 4836, 5991, 3957,
+    4020, 5991, 5991, 5991, 5991, 5322, 1212, 5323, 1776, 2198, 2544, 1032, 1033, 5324, 5617, 5991, 5991, 5991, 2975,
+    5991, 2996, 5991, 1911, 1999, 3592, 3716, 4589, 3773, 4590, 1391, 5084, 5085, 5086, 5381, 5382, 5383, 5384, 5991,
+    5991, 3729, 4231, 121, 3893, 4232, 5991, 78, 5460, 5991, 5991, 5991, 5991, 167, 1510, 5991, 5991, 287, 288, 5991,
+    5991, 5991, 5991, 4710, 1798, 2400, 4003, 2543, 4750, 2015, 2362, 4751, 1307, 2631, 1875, 3998, 5783, 5991, 2747,
+    561, 3133, 4656, 5635, 4565, 3228, 3229, 3230, 4846, 4847, 428, 3302, 3303, 5991, 240, 241, 5417, 2836, 2087, 1623,
+    588, 2851, 3013, 1608, 3970, 4819, 5991, 5991, 5991, 5991, 1173, 5991, 5991, 1579, 422, 130, 3867, 5483, 198, 1009,
+    2812, 3121, 5991, 5991, 5991, 5991, 5991, 407, 408, 409, 1320, 1813, 1852, 1214, 2474, 4025, 1415, 4454, 4455, 3043,
+    4456, 5834, 5835, 5991, 3146, 4666, 5991, 5991, 2423, 5991, 1637, 2156, 2255, 3510, 5034, 3342, 1180, 3343, 5035,
+    3749, 5036, 1944, 3691, 3251, 3252, 3253, 5037, 18, 19, 4054, 4055, 2250, 2185, 4056, 2917, 5038, 5039, 5991, 5991,
+    5991, 4431, 3672, 5991, 945, 946, 2184, 3495, 4400, 1199, 4401, 2668, 3877, 4402, 5991, 5991, 1864, 5991, 2766,
+    4068, 202, 5991, 1977, 1586, 5991, 5991, 2761, 5991, 5991, 5991, 5991, 5991, 5991, 5991, 502, 503, 5991, 3070, 5991,
+    3528, 2738, 5514, 5991, 5991, 1512, 2572, 4807, 3562, 5991, 5991, 5991, 5991, 1462, 3990, 5991, 5991, 5991, 5991,
+    5991, 5991, 60, 61, 62, 5971, 5686, 5991, 5991, 1938, 5991, 984, 985, 5991, 3619, 5991, 2950, 5991, 3559, 2883,
+    4032, 5991, 5991, 3582, 1710, 883, 5991, 5991, 5991, 1168, 1169, 1358, 1970, 5991, 5991, 5991, 2295, 2346, 5991,
+    5991, 510, 511, 357, 1989, 5991, 5991, 5991, 5991, 5991, 5991, 3737, 5991, 5991, 5991, 5991, 5547, 1285, 3896, 5548,
+    5991, 1336, 1952, 5991, 5991, 2681, 5991, 5991, 5991, 5991, 2091, 5571, 5793, 3168, 5991, 5991, 2118, 5991, 5991,
+    2063, 2664, 5991, 5991, 5991, 3376, 5991, 5991, 2699, 3939, 5991, 5991, 5944, 3473, 3723, 5945, 5991, 5991, 5991,
+    5991, 5991, 5991, 5991, 5991, 5151, 5152, 5991, 5991, 5991, 4851, 5991, 5991, 2444, 5991, 5991, 5991, 5991, 5991,
+    5991, 5991, 5991, 5991, 5991, 5991, 3835, 5991, 3536, 5290, 5291, 5292, 1546, 2859, 3820, 5991, 5991, 4627, 1218,
+    1653, 3600, 4628, 4629, 2132, 4630, 4631, 1886, 3794, 4632, 927, 4141, 4142, 4316, 1248, 4317, 5401, 5402, 1690,
+    1762, 3416, 5588, 5916, 5917, 4855, 5991, 1894, 5991, 1272, 5991, 5830, 5831, 4834, 2012, 5991, 5991, 5991, 5991,
+    5991, 5991, 319, 320, 138, 1476, 5991, 2504, 2396, 5991, 5991, 5991, 1289, 3439, 5991, 5991, 2615, 183, 1908, 1560,
+    2275, 2873, 3560, 5078, 4695, 3651, 4696, 4697, 5079, 2796, 114, 1384, 2999, 3076, 3710, 5080, 4595, 4114, 4596,
+    5606, 5325, 5326, 5327, 5328, 5329, 5330, 1748, 5331, 5332, 2234, 4294, 3853, 4201, 4202, 4203, 2334, 4057, 2487,
+    4204, 4205, 4206, 4207, 177, 4208, 4528, 4738, 1374, 3912, 4739, 1347, 2471, 1116, 4740, 4741, 5888, 5889, 5959,
+    5988, 5991, 467, 468, 2355, 3669, 5500, 5501, 5991, 1028, 5991, 3136, 5624, 5991, 5991, 2960, 1933, 3247, 3248,
+    3608, 5991, 5991, 5991, 5991, 891, 892, 5991, 5991, 5991, 2879, 5991, 220, 593, 1451, 1727, 5991, 5991, 5991, 5991,
+    5991, 5991, 5991, 5991, 5991, 1572, 5991, 5991, 5991, 5991, 4457, 5991, 5991, 5991, 5991, 298, 299, 1086, 1087,
+    1088, 1089, 426, 4519, 2002, 4012, 1216, 5991, 2038, 5469, 1407, 1606, 3062, 2923, 3946, 5784, 5991, 3157, 3899,
+    5672, 5991, 5991, 3193, 1632, 3194, 3195, 1090, 1091, 1092, 2900, 913, 1187, 3196, 3197, 3300, 806, 807, 579, 808,
+    809, 20, 21, 1261, 1441, 1609, 1614, 2827, 3301, 1268, 444, 445, 3598, 3670, 2822, 3455, 199, 1914, 3752, 2161,
+    3482, 3967, 2642, 1200, 4641, 4642, 5420, 5491, 2299, 1806, 3038, 4564, 5492, 4061, 5991, 1393, 1294, 5991, 3044,
+    3446, 4849, 5991, 2932, 5991, 137, 5991, 3538, 5991, 5991, 562, 563, 2149, 2264, 2467, 3533, 2189, 4339, 1525, 3353,
+    3354, 2845, 2957, 3355, 1292, 3356, 3357, 8, 9, 3358, 3770, 3995, 2811, 4340, 4341, 5517, 5991, 5991, 5991, 5991,
+    4367, 4368, 4369, 943, 944, 2506, 3490, 4370, 4371, 1507, 4372, 2964, 4548, 3403, 4927, 1859, 1705, 888, 4928, 4929,
+    3804, 1975, 3020, 4930, 4931, 2245, 2672, 5991, 5991, 5991, 5991, 3117, 3566, 5991, 5991, 5991, 5991, 5991, 2735,
+    5991, 5991, 5991, 5991, 5991, 5991, 1663, 5991, 5991, 5991, 5991, 1830, 44, 45, 5726, 5991, 5991, 5991, 4466, 5991,
+    5991, 5991, 5556, 5557, 5558, 123, 124, 1492, 1150, 1151, 1152, 2121, 3264, 3265, 81, 5559, 352, 353, 2884, 3552,
+    5560, 5991, 5991, 5991, 5991, 5991, 5991, 5991, 2225, 5991, 5991, 5991, 5991, 5991, 2288, 2339, 5991, 5991, 347,
+    5991, 5991, 1986, 5991, 5991, 5991, 5991, 5991, 5991, 5991, 5991, 5991, 5991, 4621, 4622, 4623, 5991, 2142, 5991,
+    2620, 1959, 5991, 1549, 1787, 5991, 5991, 5991, 4351, 1244, 2913, 2655, 5577, 2536, 5802, 852, 853, 854, 855, 2056,
+    4854, 5803, 682, 683, 684, 685, 686, 2392, 1670, 3397, 3930, 5926, 5927, 5991, 3543, 5991, 5991, 5991, 5991, 5991,
+    5788, 5991, 5991, 5991, 5991, 5991, 5991, 5991, 5991, 5991, 1368, 604, 5991, 1465, 5991, 5072, 5073, 5074, 3918,
+    5991, 5991, 5991, 3836, 56, 149, 2610, 2691, 1667, 5250, 2862, 108, 109, 3823, 3647, 5251, 3613, 5252, 5253, 5254,
+    5255, 4639, 4640, 1879, 2070, 5595, 4097, 1768, 5757, 5409, 484, 5758, 5991, 1699, 4729, 1759, 3409, 2516, 4730,
+    2049, 4731, 4245, 4246, 4247, 4346, 4732, 4733, 5176, 5177, 5178, 424, 1995, 2170, 5179, 5898, 2106, 1372, 5899,
+    1348, 5991, 5991, 5991, 5991, 5991, 5991, 880, 1163, 5991, 5991, 3468, 2270, 2589, 5312, 5313, 5991, 2527, 1011,
+    5986, 5613, 5991, 5991, 2824, 2791, 5991, 113, 2992, 5970, 3720, 3800, 4584, 5991, 4538, 3785, 2312, 3180, 3181,
+    3182, 3183, 2379, 1722, 3184, 3427, 5365, 2231, 5366, 4159, 4160, 160, 4161, 4162, 2935, 4163, 435, 4164, 4165,
+    4166, 171, 998, 1669, 2717, 4167, 4524, 5028, 5029, 5030, 1143, 1144, 1145, 5206, 4007, 2331, 3442, 2026, 3848,
+    5207, 5208, 5209, 5210, 5211, 5212, 1027, 2557, 3129, 5213, 5367, 3601, 2539, 5368, 5631, 2432, 3006, 5773, 88,
+    1045, 917, 5752, 232, 233, 5430, 5431, 5468, 5774, 584, 5991, 1458, 5991, 5991, 5991, 2110, 5991, 5991, 5991, 5991,
+    5991, 5991, 5991, 398, 5991, 5991, 5991, 5991, 5991, 4307, 5991, 1375, 653, 654, 655, 656, 657, 658, 659, 660, 661,
+    1206, 1489, 1490, 1809, 1597, 1848, 2032, 2533, 2585, 2928, 3055, 4800, 3143, 4672, 4673, 4674, 566, 4801, 1633,
+    2152, 2259, 3522, 615, 616, 617, 618, 619, 620, 621, 622, 623, 2850, 3317, 3318, 1448, 3319, 3320, 3321, 3573, 2246,
+    3695, 3745, 4352, 4353, 5427, 3466, 3889, 5456, 4920, 4921, 192, 952, 4922, 4380, 3499, 4381, 1275, 4382, 4383,
+    4384, 4385, 4386, 4923, 1862, 4924, 2762, 3683, 4072, 4925, 1398, 4926, 5858, 5859, 5991, 5991, 4490, 5991, 131,
+    5991, 5991, 5991, 5991, 5991, 5991, 5991, 5991, 2726, 5991, 3088, 5991, 5991, 1516, 2984, 1941, 3765, 269, 3954,
+    5991, 5991, 4451, 2459, 5991, 5991, 5991, 5991, 5991, 5991, 5991, 5991, 5991, 2337, 5682, 5991, 5991, 5991, 5991,
+    992, 993, 5991, 3615, 5991, 5991, 5991, 3555, 2895, 4039, 4040, 2325, 3628, 1714, 887, 4041, 4042, 1966, 4043, 4044,
+    2818, 5991, 115, 5991, 5991, 5991, 5991, 5991, 3111, 518, 519, 361, 2679, 255, 5549, 5550, 5551, 1191, 5814, 5815,
+    1326, 1498, 1661, 2910, 5480, 3580, 1825, 5991, 5991, 5721, 1948, 5722, 5991, 5991, 2751, 4852, 5991, 1380, 2095,
+    2318, 4359, 2546, 2428, 3684, 2114, 4360, 5567, 2067, 5800, 85, 2952, 5801, 174, 4475, 5991, 133, 5991, 5991, 5991,
+    5991, 3727, 5991, 2449, 4484, 2226, 5991, 5991, 5991, 5991, 5485, 5066, 5067, 5068, 5991, 5991, 5991, 5991, 5991,
+    5991, 5991, 5991, 5991, 5991, 2420, 5991, 5991, 5991, 5991, 3913, 1177, 5991, 5991, 5991, 5991, 5734, 5542, 5735,
+    1542, 2855, 5991, 5991, 496, 497, 3371, 3372, 3373, 3374, 2714, 848, 849, 850, 488, 851, 2128, 930, 712, 713, 714,
+    715, 1194, 3375, 3925, 1678, 1750, 4322, 2524, 4323, 4477, 3698, 4722, 4723, 4724, 4725, 4726, 5536, 5160, 5161,
+    2008, 5162, 2806, 5163, 5584, 5908, 3502, 5909, 5991, 5991, 1472, 5991, 2500, 1039, 5991, 5991, 1048, 5991, 5991,
+    5991, 5991, 2611, 2279, 5991, 1556, 2869, 106, 107, 1023, 4492, 5602, 5991, 5991, 5991, 2784, 5991, 5991, 5991,
+    5991, 5991, 5991, 5991, 4079, 1538, 1775, 1245, 2408, 2703, 4080, 401, 402, 1692, 463, 1737, 3430, 4081, 4082, 4083,
+    4084, 4269, 3857, 4270, 504, 505, 4271, 4298, 2165, 4508, 5412, 4049, 5880, 5881, 5991, 3986, 3987, 3024, 1109,
+    1110, 4486, 5824, 5825, 5991, 5991, 3032, 2359, 5504, 5505, 3666, 1822, 5991, 2201, 2531, 5991, 2560, 3817, 5620,
+    5991, 1867, 2798, 2978, 5991, 2993, 3717, 3591, 5991, 2253, 903, 4585, 3778, 4586, 5991, 5991, 5991, 5991, 5991,
+    1731, 5991, 5991, 5991, 3730, 3901, 4217, 4218, 4219, 1267, 4220, 4221, 4222, 4223, 4793, 4794, 4795, 5991, 5991,
+    3127, 4556, 289, 290, 4515, 4706, 172, 4028, 155, 4029, 4707, 4016, 2540, 4708, 2020, 434, 1410, 1602, 3058, 567,
+    568, 569, 570, 571, 572, 1231, 2006, 2411, 2919, 3153, 3243, 3244, 1103, 1104, 1044, 1105, 914, 915, 916, 1184,
+    2580, 790, 791, 574, 792, 793, 1436, 1437, 1618, 2427, 2839, 2904, 2930, 2757, 3016, 3245, 3309, 3310, 3311, 3312,
+    3313, 195, 3314, 3382, 3383, 3459, 3486, 2623, 5, 3563, 3838, 3950, 4302, 2303, 1802, 1849, 4651, 4907, 2033, 4908,
+    1397, 4909, 4910, 4911, 4912, 4913, 5416, 5638, 1912, 5649, 3887, 5656, 260, 261, 262, 263, 1642, 2145, 2721, 3334,
+    3513, 5699, 1529, 3766, 5840, 2841, 3688, 5841, 5868, 5869, 4052, 14, 15, 4053, 5991, 5991, 5991, 5991, 3675, 5991,
+    5991, 5991, 5991, 5712, 4426, 491, 4427, 950, 951, 4409, 3494, 4410, 4428, 2671, 4429, 4430, 5991, 5991, 5991, 1855,
+    2769, 5991, 5991, 3850, 5991, 5991, 5991, 1355, 5991, 5991, 5991, 5991, 5991, 1922, 5991, 5991, 4156, 5991, 5991,
+    5991, 5991, 3531, 2707, 2739, 1193, 5991, 2569, 1501, 539, 540, 1942, 3577, 5991, 5991, 5991, 2491, 3993, 5730,
+    5991, 5991, 5991, 4470, 74, 75, 4314, 5974, 5991, 5689, 5991, 5991, 5991, 974, 975, 5991, 3620, 4550, 2639, 2947,
+    5991, 3548, 5991, 5991, 5991, 5991, 3475, 5471, 5991, 5991, 5991, 1164, 1165, 1298, 1299, 1969, 3215, 3216, 3217,
+    2292, 1491, 2351, 3218, 3584, 5991, 2637, 1988, 4718, 4473, 5991, 5991, 5991, 5991, 3742, 5991, 5991, 5991, 5991,
+    2315, 1284, 1832, 5459, 1335, 4721, 1955, 4487, 1783, 1426, 1427, 1535, 2662, 5574, 2090, 5747, 5748, 3110, 3574,
+    2115, 865, 5538, 5991, 1378, 2060, 2239, 5991, 701, 5991, 3805, 3401, 2696, 3934, 93, 1673, 5950, 5951, 3653, 3654,
+    4485, 4815, 3109, 5991, 5991, 5991, 5751, 2593, 2222, 5122, 5123, 5124, 5125, 3585, 5126, 5127, 2441, 5128, 5129,
+    5991, 675, 2782, 1389, 3271, 3272, 3629, 5991, 5991, 5991, 5991, 2606, 3507, 5308, 1650, 5309, 2858, 3819, 5991,
+    5991, 5591, 5991, 372, 1656, 2663, 411, 412, 413, 1821, 1897, 2074, 3798, 4133, 765, 766, 207, 767, 768, 769, 1687,
+    4134, 1763, 3421, 5019, 87, 3885, 4260, 4261, 4262, 5020, 5021, 5405, 5922, 5195, 2013, 5196, 2174, 5197, 5198, 397,
+    3073, 5199, 1278, 1279, 3658, 4453, 5200, 2501, 5201, 5923, 5991, 1036, 5991, 5991, 3472, 5991, 389, 390, 1905,
+    2274, 2206, 1015, 2209, 2517, 4446, 4447, 1927, 4448, 2795, 4449, 4450, 3004, 3508, 3707, 4690, 4691, 936, 3904,
+    2308, 3781, 1254, 4101, 4102, 4103, 4692, 1741, 3423, 4693, 545, 546, 547, 548, 549, 550, 551, 552, 553, 554, 2235,
+    821, 822, 823, 824, 825, 2371, 2404, 2939, 3808, 3845, 4193, 2453, 1125, 1126, 1127, 1128, 1129, 2598, 3681, 2022,
+    2354, 4194, 1568, 4195, 4196, 2564, 338, 4197, 2553, 2686, 1222, 3141, 3605, 4198, 1928, 2981, 4199, 4200, 4293,
+    4357, 3982, 920, 3983, 221, 222, 4694, 4785, 3637, 4786, 4889, 4890, 1454, 1728, 4891, 4892, 449, 450, 4893, 4894,
+    4895, 4896, 4897, 1571, 4898, 5116, 5230, 2479, 5231, 2083, 4462, 5232, 4518, 309, 310, 1075, 1076, 187, 1077, 1078,
+    1318, 2005, 5233, 5234, 2043, 5348, 1408, 1593, 3945, 2924, 3051, 5349, 5350, 5351, 3154, 1224, 4678, 5352, 5493,
+    3222, 3223, 2530, 2809, 2899, 3224, 3328, 3329, 3518, 3599, 3757, 4300, 2830, 776, 777, 778, 1291, 1444, 1613, 2368,
+    2816, 4498, 4774, 4775, 5423, 5494, 5495, 96, 2048, 1235, 5609, 5627, 3450, 188, 960, 961, 962, 963, 3477, 5657,
+    5658, 5707, 5850, 5851, 2298, 5956, 1807, 1842, 5957, 4060, 3081, 5958, 1402, 365, 5962, 5963, 5983, 4712, 5991,
+    5991, 382, 1936, 5991, 5991, 5991, 3859, 5991, 5991, 5991, 2730, 4510, 2194, 5521, 5991, 1520, 3359, 3360, 2848,
+    3361, 489, 3362, 2384, 3363, 3364, 3762, 5991, 5991, 5991, 5991, 5991, 5991, 5991, 5991, 1865, 2967, 3662, 4439,
+    5063, 5064, 5065, 5991, 4545, 3624, 475, 476, 4513, 331, 332, 2891, 5991, 2197, 5991, 1702, 2244, 3702, 5991, 5991,
+    3023, 5991, 5991, 5991, 2742, 5991, 5991, 1316, 5750, 5991, 5991, 526, 527, 2675, 5991, 5991, 5991, 5991, 5991,
+    4541, 5991, 5991, 1493, 5991, 1664, 5991, 5991, 5991, 1829, 5991, 40, 41, 5991, 5991, 5991, 5991, 5991, 5991, 5991,
+    5563, 1243, 2099, 2520, 2550, 1877, 1153, 1154, 1155, 2126, 5991, 5991, 82, 1201, 1791, 2956, 5458, 5991, 5991,
+    5991, 5991, 5991, 5991, 5991, 3920, 4480, 5991, 5991, 5991, 5991, 393, 394, 1716, 2285, 2344, 5991, 346, 668, 669,
+    1386, 5675, 2897, 5676, 5991, 1563, 5991, 5991, 3735, 5991, 5991, 5991, 3917, 1280, 5991, 2137, 5991, 5991, 5991,
+    5991, 5991, 1554, 5991, 5991, 4998, 4999, 5000, 5001, 2648, 5002, 5003, 5004, 863, 864, 3831, 2053, 5533, 5580, 932,
+    747, 748, 749, 750, 751, 752, 753, 754, 1682, 1754, 3929, 5932, 5933, 5991, 4289, 4290, 3583, 5450, 5804, 5805,
+    5991, 5991, 5991, 5991, 3160, 5991, 5991, 5991, 5991, 607, 1204, 5991, 1468, 5991, 5991, 5991, 5991, 5991, 5991,
+    1923, 5991, 5991, 5991, 2607, 5284, 5285, 1651, 2865, 5286, 5445, 5763, 5598, 3644, 5764, 5991, 5991, 2788, 5989,
+    4784, 5991, 537, 538, 1884, 3101, 3792, 1771, 4096, 2493, 4326, 4327, 4504, 1696, 4597, 1740, 3410, 2511, 4598,
+    2086, 2705, 3080, 4284, 4285, 4286, 4343, 4599, 4600, 4601, 3084, 425, 2169, 4602, 5114, 5193, 2208, 2214, 4832,
+    5194, 5408, 5904, 5905, 5981, 3919, 1010, 4021, 5991, 5991, 5506, 5507, 4874, 2563, 1777, 4875, 4876, 1030, 1031,
+    4877, 4878, 4879, 4880, 4881, 5552, 2974, 5616, 5991, 5991, 5991, 5991, 909, 910, 911, 3774, 4579, 1252, 4580, 5391,
+    2378, 2773, 1719, 2963, 3428, 2307, 3966, 5392, 5393, 157, 5665, 5666, 5991, 5991, 5991, 5991, 5991, 2447, 166,
+    1000, 1001, 1002, 1003, 4560, 5991, 5991, 5991, 1319, 4051, 1795, 5991, 5991, 4004, 5771, 3443, 2016, 2361, 5644,
+    2632, 214, 215, 216, 5477, 2746, 3134, 4655, 1228, 4771, 3602, 1935, 3231, 3232, 3233, 4772, 4031, 427, 3025, 919,
+    238, 239, 1189, 3788, 2835, 2878, 587, 1622, 59, 30, 31, 1461, 3012, 3971, 3972, 3973, 3974, 273, 274, 1174, 429,
+    1578, 3866, 3975, 3976, 4844, 1008, 3122, 4304, 4305, 4306, 4845, 5432, 5433, 5634, 5645, 5772, 1350, 1814, 1845,
+    2475, 2029, 4026, 1416, 2321, 2629, 3052, 4027, 1983, 5528, 3147, 327, 4665, 5991, 5991, 5991, 1638, 5991, 2157,
+    2256, 5991, 3340, 3341, 5991, 2577, 1533, 1170, 1171, 3692, 3750, 3962, 5991, 5991, 1447, 5057, 5058, 5059, 5991,
+    2251, 5991, 5991, 5991, 5991, 5991, 5991, 5991, 3260, 3261, 3449, 2196, 957, 958, 959, 2353, 3498, 4393, 1344, 2667,
+    1325, 3876, 4394, 1871, 3571, 2765, 3682, 203, 4067, 4395, 1980, 1587, 1351, 1352, 4396, 4397, 4398, 4399, 1918,
+    4489, 5991, 5991, 5991, 5991, 5991, 5991, 3527, 2727, 5486, 5515, 5991, 2573, 3381, 5701, 3561, 5991, 5991, 5991,
+    1536, 1265, 2456, 810, 811, 812, 1331, 3989, 5991, 63, 64, 65, 2388, 1238, 2968, 3663, 4812, 5685, 982, 983, 5991,
+    3616, 5991, 2951, 5991, 5991, 3558, 2892, 5991, 5991, 5991, 3589, 1711, 882, 5991, 5991, 1965, 5991, 5991, 1360,
+    5991, 5991, 1271, 5991, 2347, 5991, 5991, 5991, 512, 356, 513, 5991, 5991, 5991, 5991, 5991, 5991, 5991, 3738, 5991,
+    5991, 5991, 5991, 5991, 3897, 1257, 377, 1836, 1951, 418, 419, 1779, 5991, 5991, 5991, 5991, 5570, 2094, 5991, 129,
+    4553, 2600, 5991, 5991, 5991, 5991, 2064, 2243, 2627, 2772, 3625, 5991, 5991, 3938, 2700, 5991, 5991, 5991, 3724,
+    3474, 5942, 4481, 5943, 5991, 5991, 5991, 5991, 5991, 5714, 5146, 5147, 5148, 5149, 5150, 271, 272, 5466, 2445,
+    5715, 5991, 5991, 5991, 5991, 5991, 3639, 5991, 5991, 5991, 1178, 3186, 5991, 5991, 1383, 4783, 5293, 1547, 5294,
+    2854, 5295, 5991, 5587, 5991, 5991, 5991, 5991, 5534, 2715, 1817, 5991, 3795, 1887, 5991, 926, 3102, 4140, 5991,
+    144, 5399, 5400, 5991, 1691, 5991, 1751, 3417, 5914, 5444, 5915, 5991, 1895, 4828, 2402, 4829, 5816, 5817, 5991,
+    2009, 5991, 5991, 5991, 5991, 5991, 5991, 1371, 321, 322, 2280, 5991, 5991, 2421, 5991, 4839, 5991, 5991, 5991,
+    3440, 5991, 5991,
 };
 
 /* The index of the first entry with a name or with octets, of this hash. */
 CONST_OID_INLINE size_t const_oid_internal_common_find_name(const char *name, size_t len, uint32_t hash) {
-    size_t slot = const_oid_internal_slot(hash, 8211), index;
+    size_t slot = const_oid_internal_slot(hash, 8237), index;
     do {
         index = const_oid_common_names_by_hash[slot++];
     } while (index < CONST_OID_COMMON_NAMES_COUNT
@@ -5140,7 +5134,7 @@ CONST_OID_INLINE size_t const_oid_internal_common_find_name(const char *name, si
 }
 
 CONST_OID_INLINE size_t const_oid_internal_common_find_octets(const uint8_t *octets, size_t len, uint32_t hash) {
-    size_t slot = const_oid_internal_slot(hash, 8211), index;
+    size_t slot = const_oid_internal_slot(hash, 8237), index;
     do {
         index = const_oid_common_octets_by_hash[slot++];
     } while (index < CONST_OID_COMMON_NAMES_COUNT

@@ -99,7 +99,7 @@ fn read(input: &[u8], is_hex: bool) -> Result<Oid, Box<dyn Error>> {
 fn name_in(input: &str) -> String {
     let text = input.to_ascii_lowercase();
     let text = text.rsplit(':').next().unwrap_or_default();
-    text.strip_prefix("oid.").unwrap_or(text).into()
+    text.strip_prefix("oid.").or(text.strip_prefix('.')).unwrap_or(text).into()
 }
 
 /// Whether a name, perhaps with arcs after it, is one that no table has.

@@ -94,6 +94,8 @@ const ROWS: &[(&str, &str, &str)] = &[
     ("c3", C3, ""),
     ("DSA", DSA, ""),
     ("OID.dsa", DSA, ""),
+    (".dsa", DSA, ""),
+    (".nope", "", "expected digit, got 'n'. No identifier has this name"),
     ("code-signing", SIGNING, ""),
     ("CN", CN, ""),
     ("2.5.4.3 3.1", CN, "OID contains out-of-range arc: 3"),

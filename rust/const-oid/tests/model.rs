@@ -100,7 +100,7 @@ mod model {
         (1..).find(|width| number < 128_u64.pow(*width)).unwrap()
     }
 
-    /// The fault of the last of these arcs, if those before have none (cases 5 and 6 of section 5 of RULES). Its octets
+    /// The error of the last of these arcs, if those before have none (cases 5 and 6 of section 5 of RULES). Its octets
     /// are taken of the room that those before leave.
     fn arc_fault(arcs: &[Arc], room: &mut usize) -> Option<Error> {
         let (arc, number) = match arcs {

@@ -78,10 +78,12 @@ CONST_OID_INLINE uint32_t const_oid_internal_hash(const uint8_t *bytes, size_t l
     size_t i;
     for (i = 0; i + 4 < len; i += 4)
         hash = (hash ^ (const_oid_internal_word(bytes + i) | bits)) * factor & 0xFFFFFFFFu;
-    if (len >= 4)
+    if (len >= 4) {
         word = const_oid_internal_word(bytes + len - 4);
-    for (i = len < 4 ? len : 0; i > 0; i--)
-        word = word << 8 | bytes[i - 1];
+    } else {
+        for (i = len; i > 0; i--)
+            word = word << 8 | bytes[i - 1];
+    }
     return (hash ^ (word | bits)) * factor & 0xFFFFFFFFu;
 }
 

@@ -27,8 +27,8 @@ pub fn header(marked: &str, table: &str) -> String {
     let encoded = Vec::from_iter(sorted.iter().map(|entry| encoding(&entry.1.arcs)).chain([Vec::new()]));
     let (bytes, octets_at) = literals(encoded.iter().map(|octets| (escaped(octets), octets.len())));
     let names = sorted.iter().map(|entry| entry.1.name).chain([""]);
-    let (texts, names_at) =
-        literals(names.clone().map(|name| (name.escape_default().to_string() + "\\0", name.len() + 1)));
+    let in_order = rows.iter().map(|row| row.name).chain([""]);
+    let (texts, names_at) = literals(in_order.map(|name| (name.escape_default().to_string() + "\\0", name.len() + 1)));
     let by_name = rows.iter().enumerate().map(|(row, of)| (hash(of.name.as_bytes(), 32), place(row)));
     let by_octets = encoded.iter().take(rows.len()).enumerate().map(|(index, octets)| (hash(octets, 0), index));
     let constant = |row: &Row| {
@@ -39,7 +39,8 @@ pub fn header(marked: &str, table: &str) -> String {
         format!("{{const_oid_name_bytes[{}] + {}, {}}},", at / LITERAL, at % LITERAL, octets.len())
     };
     let entry = |(index, name): (usize, &str)| {
-        format!("{{{}, {}, {}, {}}},", names_at[index], octets_at[index], name.len(), encoded[index].len())
+        let name_at = names_at[sorted.get(index).map_or(rows.len(), |entry| entry.0)];
+        format!("{{{name_at}, {}, {}, {}}},", octets_at[index], name.len(), encoded[index].len())
     };
     let marks: [(&str, String); 13] = [
         ("@SEARCHES@\n", searches(1)),
