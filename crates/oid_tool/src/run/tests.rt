@@ -184,19 +184,19 @@ fn answers_as_many_lines_as_fit(rt: HostRuntime) -> Result<(), Fail> {
     Ok(())
 }
 
-/// First groups as hexadecimal digits, their arcs, and the number of groups 7F that follow them in the
-/// longest input.
+/// First subidentifiers as hexadecimal digits, their arcs, and the number of subidentifiers 7F that follow
+/// them in the longest input.
 const LONGEST: [(&str, &str, usize); 3] = [
     ("77", "2.39", 2044),
     ("8837", "2.999", 2043),
     ("908080804F", "2.4294967295", 2040),
 ];
 
-/// Whether a first group and `count` groups 7F are the longest input and print these arcs.
+/// Whether a first subidentifier and `count` subidentifiers 7F are the longest input and print these arcs.
 fn prints_longest(alloc: Global, first: &str, arcs: &str, count: usize) -> Result<bool, Fail> {
-    let groups = "7F".repeat(alloc, count)?;
+    let sevens = "7F".repeat(alloc, count)?;
     let later = ".127".repeat(alloc, count)?;
-    let input = format!(in alloc; "text {first}{groups}\n")?;
+    let input = format!(in alloc; "text {first}{sevens}\n")?;
     let wanted = format!(in alloc; "{arcs}{later}\n")?;
     Ok(input.len() == MAX_INPUT && answers_by(alloc, input.as_bytes(), wanted.as_bytes()))
 }
