@@ -107,11 +107,14 @@ typedef struct {
     size_t len;
 } Output;
 
-/* Reserves memory for items of a size, or raises MemoryError. */
+/* Reserves memory for items of a size: 0, or -1 with a MemoryError. */
 static int reserve(Output *out, size_t len, size_t size) {
     out->len = len;
     out->start = len <= sizeof out->room / size ? out->room : PyMem_Calloc(len, size);
-    return out->start || PyErr_NoMemory();
+    if (out->start)
+        return 0;
+    PyErr_NoMemory();
+    return -1;
 }
 
 /* An output that is freed at the end of its block, so what follows its declaration is `reserve`. */
@@ -141,7 +144,7 @@ static PyObject *identifier_from_text(PyObject *type, PyObject *text) {
     if (!data)
         return NULL;
     OUTPUT out;
-    if (!reserve(&out, (size_t)len, 1))
+    if (reserve(&out, (size_t)len, 1))
         return NULL;
     const_oid_status status = const_oid_from_text(data, (size_t)len, out.start, out.len);
     return allocate((PyTypeObject *)type, finish(&out, type, status, 0, text));
@@ -250,7 +253,7 @@ static PyObject *identifier_read_der(PyObject *type, PyObject *given) {
         return NULL;
     OUTPUT copy;
     int is_row = view.ndim == 1 && view.itemsize == 1;
-    int has_room = reserve(&copy, is_row ? copied_len(view.buf, (size_t)view.len) : 0, 1);
+    int has_room = !reserve(&copy, is_row ? copied_len(view.buf, (size_t)view.len) : 0, 1);
     if (has_room)
         memcpy(copy.start, view.buf, copy.len);
     PyBuffer_Release(&view);
@@ -293,13 +296,13 @@ static PyObject *identifier_from_arcs(PyObject *type, PyObject *given) {
     if (!items)
         return NULL;
     OUTPUT arcs;
-    if (!reserve(&arcs, (size_t)PyTuple_Size(items), sizeof(uint32_t)))
+    if (reserve(&arcs, (size_t)PyTuple_Size(items), sizeof(uint32_t)))
         return NULL;
     Py_ssize_t count = (Py_ssize_t)arcs.len, fitting = read_arcs(items, count, arcs.start);
     if (fitting < 0)
         return NULL;
     OUTPUT out;
-    if (!reserve(&out, ARC_OCTETS * (size_t)fitting, 1))
+    if (reserve(&out, ARC_OCTETS * (size_t)fitting, 1))
         return NULL;
     const_oid_status status = const_oid_from_arcs(arcs.start, (size_t)fitting, out.start, out.len);
     return make((PyTypeObject *)type, finish(&out, type, status, fitting < count, items));
@@ -319,7 +322,7 @@ static PyObject *tuple_of(const uint32_t *arcs, size_t count) {
 static PyObject *first_arcs(Identifier *identifier) {
     OUTPUT out;
     const_oid_octets octets = identifier->items;
-    if (!reserve(&out, octets.len + 1, sizeof(uint32_t)))
+    if (reserve(&out, octets.len + 1, sizeof(uint32_t)))
         return NULL;
     const_oid_status status = const_oid_arcs(octets.octets, octets.len, out.start, out.len);
     OWNED *arcs = tuple_of(out.start, status.len);
@@ -343,7 +346,7 @@ static PyObject *identifier_arcs(PyObject *self, void *Py_UNUSED(closure)) {
 static PyObject *identifier_der(PyObject *self, void *Py_UNUSED(closure)) {
     OUTPUT out;
     const_oid_octets octets = octets_of(self);
-    if (!reserve(&out, octets.len + 2 + sizeof octets.len, 1))
+    if (reserve(&out, octets.len + 2 + sizeof octets.len, 1))
         return NULL;
     return finish(&out, self, const_oid_to_der(octets.octets, octets.len, out.start, out.len), 0, self);
 }
@@ -363,7 +366,7 @@ static PyObject *identifier_child(PyObject *self, PyObject *item) {
     if (arc < 0)
         return NULL;
     OUTPUT out;
-    if (!reserve(&out, octets.len + ARC_OCTETS, 1))
+    if (reserve(&out, octets.len + ARC_OCTETS, 1))
         return NULL;
     const_oid_status status = const_oid_push_arc(octets.octets, octets.len, (uint32_t)arc, out.start, out.len);
     return make(Py_TYPE(self), finish(&out, self, status, arc > UINT32_MAX, item));
@@ -381,7 +384,7 @@ static PyObject *identifier_starts_with(PyObject *self, PyObject *prefix) {
 static PyObject *identifier_str(PyObject *self) {
     OUTPUT out;
     const_oid_octets octets = octets_of(self);
-    if (!reserve(&out, octets.len, 4))
+    if (reserve(&out, octets.len, 4))
         return NULL;
     const_oid_status status = const_oid_to_text(octets.octets, octets.len, out.start, 4 * out.len);
     return PyUnicode_FromStringAndSize(out.start, (Py_ssize_t)status.len);

@@ -386,16 +386,23 @@ class Sorted(unittest.TestCase):
         table[oid.child(1)] = table
         self.assertEqual(f"SortedMap({{{oid!r}: 1, {oid.child(1)!r}: {{...}}}})", repr(table))
         for view in (dict.keys, dict.values, dict.items):
-            shown, views = {oid: 1}, getattr(table := SortedMap({oid: 1}), view.__name__)
-            shown[oid.child(1)], table[oid.child(1)] = view(shown), views()
+            shown, table = {oid: 1}, SortedMap({oid: 1})
+            views = getattr(table, view.__name__)
+            shown[oid.child(1)] = view(shown)
+            table[oid.child(1)] = views()
             self.assertEqual(repr(view(shown)).replace("dict", "SortedMap"), repr(views()))
         self.assertEqual("SortedMap_iterator", type(iter(table)).__name__)
         others = {KEYS[0]: Own("2.5")}, {mock.Mock(spec=oid): 1}
         self.assertNotIn(SortedMap({oid: Own("2.5")}), others)
-        walk, table = iter(bare := SortedMap.__new__(SortedMap)), SortedMap.fromkeys(KEYS)
-        found = [*readings(bare)], bare.clear(), [*walk], bare.update(table) or bare
-        self.assertEqual(([[]] * 7, None, [], table), found)
-        self.assertEqual((KEYS[::-1], None, {}), ([*reversed(table)], bare.clear(), bare))
+        bare, table = SortedMap.__new__(SortedMap), SortedMap.fromkeys(KEYS)
+        walk = iter(bare)
+        self.assertEqual([[]] * 7, readings(bare))
+        self.assertIsNone(bare.clear())
+        self.assertEqual([], [*walk])
+        self.assertIsNone(bare.update(table))
+        self.assertEqual((table, KEYS[::-1]), (bare, [*reversed(table)]))
+        bare.clear()
+        self.assertEqual({}, bare)
         for kind in (dict, SortedMap):
             one, nan = kind({oid: None}), float("nan")
             self.assertIsNone(one.setdefault(oid, 1))
@@ -487,7 +494,8 @@ class Sorted(unittest.TestCase):
             self.assertEqual(([one], {one: [1]}, {one: [1]}), (list(table), table, source))
         table.name, table[other] = table, 4
         self.assertIs((again := copy.deepcopy(table)), again.name)
-        self.assertEqual(({one: [1]}, [one, other], None), (source, list(table), table.clear()))
+        self.assertEqual(({one: [1]}, [one, other]), (source, [*table]))
+        table.clear()
         self.assertEqual((table, {}), (table.name, table))
         new = {"__new__": lambda kind, given: object.__new__(kind)}
         state = {"__setstate__": lambda table, x: vars(table).update(x)}
@@ -512,9 +520,14 @@ class Sorted(unittest.TestCase):
             found = {base: [] for base in (dict, SortedMap)}
             for base in found:
                 counts = itertools.count()
+
+                def new(kind, *_):
+                    next(counts)
+                    return base.__new__(kind)
+
                 methods = {
                     "__module__": __name__,
-                    "__new__": lambda kind, *_: (next(counts), base.__new__(kind))[1],
+                    "__new__": new,
                     "extend": lambda one, items: setattr(one, "x", items),
                     way: lambda one, *_: reduce(one),
                 }
@@ -572,7 +585,9 @@ class Sorted(unittest.TestCase):
             else:
                 errors, wanted = [*entries], [*order(table)][count:] if count < 5 else []
             self.assertEqual(wanted, errors, (name, view, count))
-        entries, _ = iter(bare := SortedMap.__new__(SortedMap)), bare.update({KEYS[0]: 1})
+        bare = SortedMap.__new__(SortedMap)
+        entries = iter(bare)
+        bare.update({KEYS[0]: 1})
         self.assertIsInstance(error_of(next, entries), RuntimeError)
 
     @unittest.skipUnless(_testcapi, "Python's module for tests of its C API is not installed")

